@@ -1,0 +1,33 @@
+-- `transform::partition::result_type` meets its contract. Assumes nothing.
+use Rattle.transform.proofs.Arms.{result-arm}
+use Rattle.transform.specs.ResultType.{resultType}
+use borrow.Author.Needs.{needs}
+use Rattle.transform.proofs.partition.result_type.Statement.{statement}
+use Rattle.transform.proofs.partition.result_type.Tie as tie
+
+pub result-type-spec : {M : Type 1} → statement M
+unfolding resultType
+result-type-spec =
+    tie.close
+    (tie.spec
+    (search needs)
+    (search needs)
+    (search needs)
+    (search needs)
+    (search needs)
+    (search needs)
+    (search needs)
+    (search needs)
+    (search needs)
+    (search needs)
+    (search needs)
+    (search needs)
+    (search needs)
+    (λ c. search result-arm)
+    (λ c. search result-arm)
+    (λ c. search result-arm)
+    (λ c. search result-arm)
+    (λ c. search result-arm)
+    (λ c. search result-arm)
+    (λ c. search result-arm)
+    (λ c. search result-arm))

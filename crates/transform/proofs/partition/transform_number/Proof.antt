@@ -1,0 +1,19 @@
+-- `transform::partition::transform_number` meets its contract. Assumes nothing.
+use Rattle.transform.proofs.Arms.{rows}
+use borrow.Author.Needs.{needs}
+use Rattle.transform.proofs.partition.transform_number.Statement.{statement}
+use Rattle.transform.proofs.partition.transform_number.Tie as tie
+
+pub transform-number-spec : {M : Type 1} → statement M
+transform-number-spec =
+    tie.close
+    (tie.spec
+    (search needs)
+    (search needs)
+    (search needs)
+    (search needs)
+    (search needs)
+    (search needs)
+    (λ c. search rows)
+    (λ c. search rows)
+    (λ c. search rows))

@@ -1,0 +1,6 @@
+-- Lemmas that several proofs of this crate share.
+pub mod BitLaws
+pub mod Held
+pub mod Refusals
+pub mod Rests
+pub mod Utf8Loops

@@ -1,0 +1,21 @@
+-- The definitions of `values`, in the order in which to read them, and then the laws about them.
+pub mod Outcomes
+pub mod Numbered
+pub mod Types
+pub mod Transforms
+pub mod Answers
+pub mod Words
+pub mod Utf8
+pub mod Order
+pub mod Ascending
+pub mod TestLaws
+pub mod OutcomeLaws
+pub mod IntLaws
+pub mod RangeLaws
+pub mod TypesLaws
+pub mod WordLaws
+pub mod CodePointLaws
+pub mod Utf8Laws
+pub mod Utf8StepLaws
+pub mod OrderLaws
+pub mod AscendingLaws

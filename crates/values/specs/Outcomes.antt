@@ -1,0 +1,38 @@
+-- What a step gives: a value, or a refusal of document 01's first table. Assumes nothing.
+use Prim.Native.Nat.{ℕ}
+use mathlib.Core.Bool.{Bool, true, false}
+use Rattle.values.specs.declared.error.ErrorKind.{ErrorKind}
+use Rattle.values.specs.declared.error.ErrorKind.the-variants.{Malformed, NotUtf8, NoResultType, DataInvalid, FeatureUnsupported, Overflow}
+
+-- document 01's numbers of the refusals
+abbrev pub errorNumber : ErrorKind → ℕ
+errorNumber Malformed = 3
+errorNumber NotUtf8 = 4
+errorNumber NoResultType = 5
+errorNumber DataInvalid = 6
+errorNumber FeatureUnsupported = 7
+errorNumber Overflow = 8
+
+pub data Res (A : Type 0) : Type 0 where
+  ok : A → Res A
+  err : ErrorKind → Res A
+
+-- a test that must pass, and the refusal where it fails
+abbrev pub need : Bool → ErrorKind → Res (Unit {0})
+need true e = ok tt
+need false e = err e
+
+-- in a `do` block the lines are checked in their order: the first that fails is the answer
+infixr 20 _>>=_ _>>_
+abbrev pub _>>=_ : {A B : Type 0} → Res A → (A → Res B) → Res B
+_>>=_ (ok x) f = f x
+_>>=_ (err e) f = err e
+
+abbrev pub _>>_ : {B : Type 0} → Res (Unit {0}) → Res B → Res B
+_>>_ (ok u) r = r
+_>>_ (err e) r = err e
+
+-- a value that may be missing: what a row holds, and what a transform makes of it
+pub data Row (A : Type 0) : Type 0 where
+  missing : Row A
+  present : A → Row A
