@@ -1,8 +1,10 @@
 -- Going forward and back through the lines of a `do` block. Assumes nothing.
-use Prim.Native.Nat.{ℕ}
+use Prim.Native.Nat.{ℕ, suc}
 use mathlib.Core.Bool.{Bool, true, false, true≢false}
+use mathlib.Core.List.{List, [], _∷_}
 use mathlib.Core.Path.{_≡_, refl, sym, ap, _∙_}
-use Rattle.values.specs.Outcomes.{Res, ok, err, need, _>>=_, _>>_, Row, missing, present}
+use lib.ListN.{length}
+use Rattle.values.specs.Outcomes.{Res, ok, err, need, each, _>>=_, _>>_, Row, missing, present}
 use Rattle.values.specs.declared.error.ErrorKind.{ErrorKind}
 
 pub ok-inj : {A : Type 0} {x y : A} → ok x ≡ ok y → x ≡ y
@@ -35,3 +37,18 @@ passed false e r h = ok-not-err h
 pub gone : {A B : Type 0} (r : Res A) (f : A → Res B) {y : B} → (r >>= f) ≡ ok y → (x : A) × (r ≡ ok x) × (f x ≡ ok y)
 gone (ok x) f h = (x, refl, h)
 gone (err e) f h = ok-not-err h
+
+-- ---- every member in its turn
+module _ {A B : Type 0} (f : A → Res B) where
+  pub each-cons : (x : A) (xs : List A) {zs : List B} → each f (x ∷ xs) ≡ ok zs → (y : B) × (ys : List B) × (f x ≡ ok y) × (each f xs ≡ ok ys) × (zs ≡ y ∷ ys)
+  each-cons x xs e =
+      let a = gone (f x) _ e in
+      let b = gone (each f xs) _ (a .2) in
+      (a .0, b .0, a .1, b .1, sym (ok-inj (b .2)))
+
+  pub each-put : (x : A) (xs : List A) {y : B} {ys : List B} → f x ≡ ok y → each f xs ≡ ok ys → each f (x ∷ xs) ≡ ok (y ∷ ys)
+  each-put x xs a b = rw (a, b)
+
+  pub each-length : (xs : List A) {ys : List B} → each f xs ≡ ok ys → length ys ≡ length xs
+  each-length [] e = ap length (sym (ok-inj e))
+  each-length (x ∷ xs) e = let a = each-cons x xs e in ap length (a .4) ∙ ap suc (each-length xs (a .3))

@@ -1,6 +1,7 @@
 -- What a step gives: a value, or a refusal of document 01's first table. Assumes nothing.
 use Prim.Native.Nat.{ℕ}
 use mathlib.Core.Bool.{Bool, true, false}
+use mathlib.Core.List.{List, [], _∷_}
 use Rattle.values.specs.declared.error.ErrorKind.{ErrorKind}
 use Rattle.values.specs.declared.error.ErrorKind.the-variants.{Malformed, NotUtf8, NoResultType, DataInvalid, FeatureUnsupported, Overflow}
 
@@ -31,6 +32,14 @@ _>>=_ (err e) f = err e
 abbrev pub _>>_ : {B : Type 0} → Res (Unit {0}) → Res B → Res B
 _>>_ (ok u) r = r
 _>>_ (err e) r = err e
+
+-- every member of a list in its turn: the first refusal is the answer
+abbrev pub each : {A B : Type 0} → (A → Res B) → List A → Res (List B)
+each f [] = ok []
+each f (x ∷ xs) = do
+  y ← f x
+  ys ← each f xs
+  ok (y ∷ ys)
 
 -- a value that may be missing: what a row holds, and what a transform makes of it
 pub data Row (A : Type 0) : Type 0 where

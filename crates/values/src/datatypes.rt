@@ -39,37 +39,19 @@ impl PrimitiveType {
     pub fn from_number(number: u8) -> TypeResult
         ensures { λ r. ⌜ r ≡ typeResult (find types number) ⌝ }
     {
-        if number == 1 {
-            return TypeResult::Ok(PrimitiveType::Int);
+        match number {
+            1 => TypeResult::Ok(PrimitiveType::Int),
+            2 => TypeResult::Ok(PrimitiveType::Long),
+            3 => TypeResult::Ok(PrimitiveType::Date),
+            4 => TypeResult::Ok(PrimitiveType::Time),
+            5 => TypeResult::Ok(PrimitiveType::Timestamp),
+            6 => TypeResult::Ok(PrimitiveType::Timestamptz),
+            7 => TypeResult::Ok(PrimitiveType::TimestampNs),
+            8 => TypeResult::Ok(PrimitiveType::TimestamptzNs),
+            9 => TypeResult::Ok(PrimitiveType::String),
+            10 => TypeResult::Ok(PrimitiveType::Binary),
+            _ => TypeResult::Err(ErrorKind::Malformed),
         }
-        if number == 2 {
-            return TypeResult::Ok(PrimitiveType::Long);
-        }
-        if number == 3 {
-            return TypeResult::Ok(PrimitiveType::Date);
-        }
-        if number == 4 {
-            return TypeResult::Ok(PrimitiveType::Time);
-        }
-        if number == 5 {
-            return TypeResult::Ok(PrimitiveType::Timestamp);
-        }
-        if number == 6 {
-            return TypeResult::Ok(PrimitiveType::Timestamptz);
-        }
-        if number == 7 {
-            return TypeResult::Ok(PrimitiveType::TimestampNs);
-        }
-        if number == 8 {
-            return TypeResult::Ok(PrimitiveType::TimestamptzNs);
-        }
-        if number == 9 {
-            return TypeResult::Ok(PrimitiveType::String);
-        }
-        if number == 10 {
-            return TypeResult::Ok(PrimitiveType::Binary);
-        }
-        TypeResult::Err(ErrorKind::Malformed)
     }
 
     pub fn number(self) -> u8

@@ -25,31 +25,17 @@ pub enum TransformResult {
 fn without_width(number: u8) -> TransformResult
     ensures { λ r. ⌜ r ≡ transformResult (transformOf number 0) ⌝ }
 {
-    if number == 0 {
-        return TransformResult::Ok(Transform::Identity);
+    match number {
+        0 => TransformResult::Ok(Transform::Identity),
+        1 => TransformResult::Ok(Transform::Truncate(0)),
+        2 => TransformResult::Ok(Transform::Year),
+        3 => TransformResult::Ok(Transform::Month),
+        4 => TransformResult::Ok(Transform::Day),
+        5 => TransformResult::Ok(Transform::Hour),
+        6 => TransformResult::Ok(Transform::Void),
+        7 => TransformResult::Ok(Transform::Unknown),
+        _ => TransformResult::Err(ErrorKind::Malformed),
     }
-    if number == 1 {
-        return TransformResult::Ok(Transform::Truncate(0));
-    }
-    if number == 2 {
-        return TransformResult::Ok(Transform::Year);
-    }
-    if number == 3 {
-        return TransformResult::Ok(Transform::Month);
-    }
-    if number == 4 {
-        return TransformResult::Ok(Transform::Day);
-    }
-    if number == 5 {
-        return TransformResult::Ok(Transform::Hour);
-    }
-    if number == 6 {
-        return TransformResult::Ok(Transform::Void);
-    }
-    if number == 7 {
-        return TransformResult::Ok(Transform::Unknown);
-    }
-    TransformResult::Err(ErrorKind::Malformed)
 }
 
 impl Transform {

@@ -1,4 +1,4 @@
--- `values::transform::without_width` meets its contract: where a test was taken the number is known, and past all of them the list has none.
+-- `values::transform::without_width` meets its contract: in an arm the number is known, and past all of them the list has none.
 -- Assumes nothing.
 use Rattle.values.specs.TestLaws.{picks}
 use Rattle.values.specs.Transforms.{transformOf}
@@ -12,12 +12,12 @@ unfolding transformOf
 without-width-spec =
     tie.close
     (tie.spec
-    (λ c. rw (c .if1 .taken))
-    (λ c. rw (c .if2 .taken))
-    (λ c. rw (c .if3 .taken))
-    (λ c. rw (c .if4 .taken))
-    (λ c. rw (c .if5 .taken))
-    (λ c. rw (c .if6 .taken))
-    (λ c. rw (c .if7 .taken))
-    (λ c. rw (c .if8 .taken))
+    (λ c. rw (c .match .keys1))
+    (λ c. rw (c .match .keys2))
+    (λ c. rw (c .match .keys3))
+    (λ c. rw (c .match .keys4))
+    (λ c. rw (c .match .keys5))
+    (λ c. rw (c .match .keys6))
+    (λ c. rw (c .match .keys7))
+    (λ c. rw (c .match .keys8))
     (λ c. search (picks, transform-missed, no-transform)))

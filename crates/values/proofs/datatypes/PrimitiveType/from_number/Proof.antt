@@ -1,4 +1,4 @@
--- `values::datatypes::PrimitiveType::from_number` meets its contract: where a test was taken the number is known, and past all of them the list has
+-- `values::datatypes::PrimitiveType::from_number` meets its contract: in an arm the number is known, and past all of them the list has
 -- none. Assumes nothing.
 use Rattle.values.specs.TestLaws.{picks}
 use Rattle.values.proofs.Refusals.{no-type}
@@ -9,14 +9,14 @@ pub from-number-spec : {M : Type 1} → statement M
 from-number-spec =
     tie.close
     (tie.spec
-    (λ c. rw (c .if1 .taken))
-    (λ c. rw (c .if2 .taken))
-    (λ c. rw (c .if3 .taken))
-    (λ c. rw (c .if4 .taken))
-    (λ c. rw (c .if5 .taken))
-    (λ c. rw (c .if6 .taken))
-    (λ c. rw (c .if7 .taken))
-    (λ c. rw (c .if8 .taken))
-    (λ c. rw (c .if9 .taken))
-    (λ c. rw (c .if10 .taken))
+    (λ c. rw (c .match .keys1))
+    (λ c. rw (c .match .keys2))
+    (λ c. rw (c .match .keys3))
+    (λ c. rw (c .match .keys4))
+    (λ c. rw (c .match .keys5))
+    (λ c. rw (c .match .keys6))
+    (λ c. rw (c .match .keys7))
+    (λ c. rw (c .match .keys8))
+    (λ c. rw (c .match .keys9))
+    (λ c. rw (c .match .keys10))
     (λ c. search (picks, no-type)))

@@ -1,0 +1,76 @@
+-- When a predicate holds of a value, which may be missing: document 01's holds-test. A row meets a leaf, and a partition value meets a predicate, where it
+-- holds. Assumes nothing.
+use Prim.Native.Nat.{ℕ}
+use mathlib.Core.Bool.{Bool, true, false, not}
+use mathlib.Core.List.{List}
+use mathlib.Core.Path.{_≡_, refl}
+use lib.IntN.{ℤ, pos, negsuc}
+use Rattle.values.specs.Outcomes.{Row, missing, present}
+use Rattle.values.specs.Order.{compareNumbers, compareBytes, startsWith, isLess, isEqual}
+use Rattle.values.specs.Ascending.{elem}
+use Rattle.values.specs.declared.order.Ordering.{Ordering}
+use Rattle.expr.specs.Operators as operators
+use Rattle.expr.specs.Predicates.{Test, binary, set, Predicate, unary, test}
+
+-- how values of a kind are tested: `begins v l` says that v begins with l
+pub record Tests (A : Type 0) : Type 0 where
+  pub compare : A → A → Ordering
+  pub begins : A → A → Bool
+
+-- 01: "numbers signed"; "207 holds of no number, 208 of every present one"
+abbrev pub numberTests : Tests ℤ
+numberTests = record { compare = compareNumbers; begins = λ v l. false }
+
+-- 01: "207 holds of a string or binary whose first bytes are L's, 208 of every other present one"
+abbrev pub bytesTests : Tests (List ℕ)
+bytesTests = record { compare = compareBytes; begins = startsWith }
+
+-- 01: "NotNull of every present value"; "IsNan holds of nothing, NotNan of every present value"; "A missing value meets IsNull only"
+abbrev pub unaryHolds : {A : Type 0} → operators.Unary → Row A → Bool
+unaryHolds operators.isNull missing = true
+unaryHolds operators.isNull (present v) = false
+unaryHolds operators.notNull missing = false
+unaryHolds operators.notNull (present v) = true
+unaryHolds operators.isNan missing = false
+unaryHolds operators.isNan (present v) = false
+unaryHolds operators.notNan missing = false
+unaryHolds operators.notNan (present v) = true
+
+-- whether a missing value meets a test
+abbrev pub missingMeets : {A : Type 0} → Test A → Bool
+missingMeets t = false
+
+module _ {A : Type 0} (by : Tests A) where
+  -- 01: "201 to 206 compare a present value with L"
+  abbrev pub binaryMeets : operators.Binary → A → A → Bool
+  binaryMeets operators.less v l = isLess (by .compare v l)
+  binaryMeets operators.atMost v l = not (isLess (by .compare l v))
+  binaryMeets operators.greater v l = isLess (by .compare l v)
+  binaryMeets operators.atLeast v l = not (isLess (by .compare v l))
+  binaryMeets operators.equal v l = isEqual (by .compare v l)
+  binaryMeets operators.notEqual v l = not (isEqual (by .compare v l))
+  binaryMeets operators.startsWith v l = by .begins v l
+  binaryMeets operators.notStartsWith v l = not (by .begins v l)
+
+  -- 01: "In holds of a present value that equals some literal, NotIn of one that equals none"
+  abbrev pub setMeets : operators.SetOperator → A → List A → Bool
+  setMeets operators.within v ls = elem (by .compare) v ls
+  setMeets operators.outside v ls = not (elem (by .compare) v ls)
+
+  abbrev pub meets : Test A → A → Bool
+  meets (binary o l) v = binaryMeets o v l
+  meets (set o ls) v = setMeets o v ls
+
+  abbrev pub holds : Predicate A → Row A → Bool
+  holds (unary o) row = unaryHolds o row
+  holds (test t) missing = missingMeets t
+  holds (test t) (present v) = meets t v
+
+-- a missing number does not meet NotEq 5
+missing-not-equal : holds numberTests (test (binary operators.notEqual (pos 5))) missing ≡ false
+missing-not-equal = refl
+
+-- -1 < 0 holds
+signed-order : holds numberTests (test (binary operators.less (pos 0))) (present (negsuc 0)) ≡ true
+unfolding compareNumbers
+signed-order = refl

@@ -1,0 +1,94 @@
+-- The opposite of a test, sets whatever their order and repeats, and the tests without a literal. Assumes nothing.
+use mathlib.Core.Bool.{true, false, not}
+use mathlib.Core.List.{List}
+use mathlib.Core.Path.{_≡_, refl, sym, ap, _∙_}
+use Rattle.values.specs.Ascending.{elem, ascending}
+use Rattle.values.specs.AscendingLaws.{elem-ascending}
+use Rattle.values.specs.Outcomes.{present}
+use Rattle.values.specs.TestLaws.{not-not}
+use Rattle.values.specs.declared.order.Ordering.the-variants.{Equal}
+use Rattle.expr.specs.Holds.{Tests, unaryHolds, setMeets, meets}
+use Rattle.expr.specs.Operators as operators
+use Rattle.expr.specs.Operators.{negated}
+use Rattle.expr.specs.Predicates.{Test, binary, set, test, operatorIn}
+
+-- ---- opposites
+abbrev pub oppositeBinary : operators.Binary → operators.Binary
+oppositeBinary operators.less = operators.atLeast
+oppositeBinary operators.atMost = operators.greater
+oppositeBinary operators.greater = operators.atMost
+oppositeBinary operators.atLeast = operators.less
+oppositeBinary operators.equal = operators.notEqual
+oppositeBinary operators.notEqual = operators.equal
+oppositeBinary operators.startsWith = operators.notStartsWith
+oppositeBinary operators.notStartsWith = operators.startsWith
+
+abbrev pub oppositeSet : operators.SetOperator → operators.SetOperator
+oppositeSet operators.within = operators.outside
+oppositeSet operators.outside = operators.within
+
+abbrev pub opposite : {A : Type 0} → Test A → Test A
+opposite (binary o l) = binary (oppositeBinary o) l
+opposite (set o ls) = set (oppositeSet o) ls
+
+pub opposite-twice : {A : Type 0} (t : Test A) → opposite (opposite t) ≡ t
+opposite-twice (binary operators.less l) = refl
+opposite-twice (binary operators.atMost l) = refl
+opposite-twice (binary operators.greater l) = refl
+opposite-twice (binary operators.atLeast l) = refl
+opposite-twice (binary operators.equal l) = refl
+opposite-twice (binary operators.notEqual l) = refl
+opposite-twice (binary operators.startsWith l) = refl
+opposite-twice (binary operators.notStartsWith l) = refl
+opposite-twice (set operators.within ls) = refl
+opposite-twice (set operators.outside ls) = refl
+
+-- the code's `negate`
+pub opposite-operator : {A : Type 0} (t : Test A) → operatorIn (test (opposite t)) ≡ negated (operatorIn (test t))
+opposite-operator (binary operators.less l) = refl
+opposite-operator (binary operators.atMost l) = refl
+opposite-operator (binary operators.greater l) = refl
+opposite-operator (binary operators.atLeast l) = refl
+opposite-operator (binary operators.equal l) = refl
+opposite-operator (binary operators.notEqual l) = refl
+opposite-operator (binary operators.startsWith l) = refl
+opposite-operator (binary operators.notStartsWith l) = refl
+opposite-operator (set operators.within ls) = refl
+opposite-operator (set operators.outside ls) = refl
+
+module _ {A : Type 0} (by : Tests A) where
+  -- a present value meets the opposite exactly where it does not meet the test. This asks nothing of the comparison: "at most" is defined as not greater
+  pub meets-opposite : (t : Test A) (v : A) → meets by (opposite t) v ≡ not (meets by t v)
+  meets-opposite (binary operators.less l) v = refl
+  meets-opposite (binary operators.atMost l) v = sym (not-not _)
+  meets-opposite (binary operators.greater l) v = refl
+  meets-opposite (binary operators.atLeast l) v = sym (not-not _)
+  meets-opposite (binary operators.equal l) v = refl
+  meets-opposite (binary operators.notEqual l) v = sym (not-not _)
+  meets-opposite (binary operators.startsWith l) v = refl
+  meets-opposite (binary operators.notStartsWith l) v = sym (not-not _)
+  meets-opposite (set operators.within ls) v = refl
+  meets-opposite (set operators.outside ls) v = sym (not-not _)
+
+  pub meets-false : (t : Test A) (v : A) → meets by (opposite t) v ≡ true → meets by t v ≡ false
+  meets-false t v h = sym (not-not _) ∙ ap not (sym (meets-opposite t v) ∙ h)
+
+  pub opposite-true : (t : Test A) (v : A) → meets by t v ≡ false → meets by (opposite t) v ≡ true
+  opposite-true t v h = meets-opposite t v ∙ ap not h
+
+  -- ---- sets: only their members matter
+  pub set-members : (o : operators.SetOperator) (v : A) (ks ls : List A)
+      → elem (by .compare) v ks ≡ elem (by .compare) v ls → setMeets by o v ks ≡ setMeets by o v ls
+  set-members operators.within v ks ls e = e
+  set-members operators.outside v ks ls e = ap not e
+
+  pub meets-ascending : ((a b : A) → by .compare a b ≡ Equal → a ≡ b) → (o : operators.SetOperator) (ls : List A) (v : A)
+      → meets by (set o (ascending (by .compare) ls)) v ≡ meets by (set o ls) v
+  meets-ascending equal o ls v = set-members o v (ascending (by .compare) ls) ls (elem-ascending (by .compare) equal v ls)
+
+-- ---- no literal: one present value is as good as another, of whatever kind
+pub unary-present : {A B : Type 0} (o : operators.Unary) (v : A) (w : B) → unaryHolds o (present v) ≡ unaryHolds o (present w)
+unary-present operators.isNull v w = refl
+unary-present operators.notNull v w = refl
+unary-present operators.isNan v w = refl
+unary-present operators.notNan v w = refl

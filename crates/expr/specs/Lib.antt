@@ -1,0 +1,8 @@
+-- The definitions of `expr`, in the order in which to read them.
+pub mod Operators
+pub mod Predicates
+pub mod Holds
+pub mod Answers
+pub mod InsertLaws
+pub mod PredicateLaws
+pub mod HoldsLaws

@@ -1,0 +1,92 @@
+-- Operators have one number each and predicates one operator and one list of literals each: what is written of them can be read back.
+-- Assumes nothing.
+use Prim.Native.Nat.{ℕ}
+use mathlib.Core.List.{List, [], _∷_}
+use mathlib.Core.Path.{_≡_, refl, _∙_}
+use Rattle.values.specs.Numbered.{find}
+use Rattle.values.specs.Outcomes.{ok}
+use Rattle.values.specs.OutcomeLaws.{ok-inj, ok-not-err}
+use Rattle.values.specs.TypesLaws.{found-number}
+use Rattle.expr.specs.Operators.{operators, operatorNumber, Arity, none, one, many, arity, operatorOf}
+use Rattle.expr.specs.Operators.{isNull, notNull, isNan, notNan, less, atMost, greater, atLeast, equal, notEqual, startsWith, notStartsWith, within, outside}
+use Rattle.expr.specs.Predicates.{Predicate, unary, test, binary, set, operatorIn, literalsIn, withLiterals, predicate}
+use Rattle.expr.specs.declared.operator.PredicateOperator.{PredicateOperator}
+use Rattle.expr.specs.declared.operator.PredicateOperator.the-variants.{IsNull, NotNull, IsNan, NotNan, LessThan, LessThanOrEq, GreaterThan, GreaterThanOrEq, Eq, NotEq, StartsWith, NotStartsWith, In, NotIn}
+
+-- ---- numbers
+pub operator-found : (o : PredicateOperator) → find operators (operatorNumber o) ≡ ok o
+operator-found IsNull = refl
+operator-found NotNull = refl
+operator-found IsNan = refl
+operator-found NotNan = refl
+operator-found LessThan = refl
+operator-found LessThanOrEq = refl
+operator-found GreaterThan = refl
+operator-found GreaterThanOrEq = refl
+operator-found Eq = refl
+operator-found NotEq = refl
+operator-found StartsWith = refl
+operator-found NotStartsWith = refl
+operator-found In = refl
+operator-found NotIn = refl
+
+pub operator-number : (n : ℕ) (o : PredicateOperator) → find operators n ≡ ok o → operatorNumber o ≡ n
+operator-number n o e =
+    found-number
+    operatorNumber
+    operators
+    n
+    o
+    (refl, (refl, (refl, (refl, (refl, (refl, (refl, (refl, (refl, (refl, (refl, (refl, (refl, (refl, tt))))))))))))))
+    e
+
+-- ---- how many literals
+pub arity-of : (a : Arity) → arity (operatorOf a) ≡ a
+arity-of (none isNull) = refl
+arity-of (none notNull) = refl
+arity-of (none isNan) = refl
+arity-of (none notNan) = refl
+arity-of (one less) = refl
+arity-of (one atMost) = refl
+arity-of (one greater) = refl
+arity-of (one atLeast) = refl
+arity-of (one equal) = refl
+arity-of (one notEqual) = refl
+arity-of (one startsWith) = refl
+arity-of (one notStartsWith) = refl
+arity-of (many within) = refl
+arity-of (many outside) = refl
+
+pub operator-of : (o : PredicateOperator) → operatorOf (arity o) ≡ o
+operator-of IsNull = refl
+operator-of NotNull = refl
+operator-of IsNan = refl
+operator-of NotNan = refl
+operator-of LessThan = refl
+operator-of LessThanOrEq = refl
+operator-of GreaterThan = refl
+operator-of GreaterThanOrEq = refl
+operator-of Eq = refl
+operator-of NotEq = refl
+operator-of StartsWith = refl
+operator-of NotStartsWith = refl
+operator-of In = refl
+operator-of NotIn = refl
+
+-- ---- predicates
+module _ {A : Type 0} where
+  pub predicate-back : (p : Predicate A) → predicate (operatorIn p) (literalsIn p) ≡ ok p
+  predicate-back (unary o) = rw (arity-of (none o))
+  predicate-back (test (binary o l)) = rw (arity-of (one o))
+  predicate-back (test (set o ls)) = rw (arity-of (many o))
+
+  with-literals : (a : Arity) (ls : List A) (p : Predicate A) → withLiterals a ls ≡ ok p → (operatorIn p ≡ operatorOf a) × (literalsIn p ≡ ls)
+  with-literals (none o) [] p e = rw (← ok-inj e) (refl, refl)
+  with-literals (none o) (l ∷ ls) p e = ok-not-err e
+  with-literals (one o) [] p e = ok-not-err e
+  with-literals (one o) (l ∷ []) p e = rw (← ok-inj e) (refl, refl)
+  with-literals (one o) (l ∷ k ∷ ls) p e = ok-not-err e
+  with-literals (many o) ls p e = rw (← ok-inj e) (refl, refl)
+
+  pub predicate-parts : (o : PredicateOperator) (ls : List A) (p : Predicate A) → predicate o ls ≡ ok p → (operatorIn p ≡ o) × (literalsIn p ≡ ls)
+  predicate-parts o ls p e = let h = with-literals (arity o) ls p e in (h .0 ∙ operator-of o, h .1)

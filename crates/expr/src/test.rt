@@ -1,0 +1,68 @@
+// Tests of a present value against one literal (src/expr/predicate.rs).
+use crate::operator::PredicateOperator;
+use values::order::Ordering;
+use values::order::compare_bytes;
+use values::order::starts_with;
+ghost use mathlib.Core.Path.{_≡_};
+ghost use Rattle.expr.specs.Operators.{arity};
+ghost use Rattle.expr.specs.Holds.{numberTests, bytesTests};
+ghost use Rattle.expr.specs.Answers.{meetsOne, asksFor};
+
+// Whether a number meets an operator that takes one literal; no other operator is met.
+pub fn number_meets(operator: PredicateOperator, v: i64, l: i64) -> bool
+    ensures { λ r. ⌜ r ≡ meetsOne numberTests (arity operator) v l ⌝ }
+{
+    match operator {
+        PredicateOperator::IsNull => false,
+        PredicateOperator::NotNull => false,
+        PredicateOperator::IsNan => false,
+        PredicateOperator::NotNan => false,
+        PredicateOperator::LessThan => v < l,
+        PredicateOperator::LessThanOrEq => v <= l,
+        PredicateOperator::GreaterThan => v > l,
+        PredicateOperator::GreaterThanOrEq => v >= l,
+        PredicateOperator::Eq => v == l,
+        PredicateOperator::NotEq => v != l,
+        PredicateOperator::StartsWith => false,
+        PredicateOperator::NotStartsWith => true,
+        PredicateOperator::In => false,
+        PredicateOperator::NotIn => false,
+    }
+}
+
+// Whether an order of a value to a literal is one that a comparison asks for; no other operator asks for one.
+fn ordering_meets(operator: PredicateOperator, o: Ordering) -> bool
+    ensures { λ r. ⌜ r ≡ asksFor (arity operator) o ⌝ }
+{
+    match o {
+        Ordering::Less => match operator {
+            PredicateOperator::LessThan => true,
+            PredicateOperator::LessThanOrEq => true,
+            PredicateOperator::NotEq => true,
+            _ => false,
+        },
+        Ordering::Equal => match operator {
+            PredicateOperator::LessThanOrEq => true,
+            PredicateOperator::GreaterThanOrEq => true,
+            PredicateOperator::Eq => true,
+            _ => false,
+        },
+        Ordering::Greater => match operator {
+            PredicateOperator::GreaterThan => true,
+            PredicateOperator::GreaterThanOrEq => true,
+            PredicateOperator::NotEq => true,
+            _ => false,
+        },
+    }
+}
+
+// Whether a byte string meets an operator that takes one literal; no other operator is met.
+pub fn bytes_meets(operator: PredicateOperator, v: &[u8], l: &[u8]) -> bool
+    ensures { λ r. ⌜ r ≡ meetsOne bytesTests (arity operator) (now (v .entry)) (now (l .entry)) ⌝ }
+{
+    match operator {
+        PredicateOperator::StartsWith => starts_with(v, l),
+        PredicateOperator::NotStartsWith => !starts_with(v, l),
+        _ => ordering_meets(operator, compare_bytes(v, l)),
+    }
+}

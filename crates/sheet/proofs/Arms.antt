@@ -1,0 +1,48 @@
+-- What a match over the column types or the operators returns in each arm, by what the arm is for. Assumes nothing.
+use Prim.Native.Nat.{ℕ, _+_, _*_, _≤_}
+use mathlib.Core.Bool.{Bool}
+use mathlib.Core.List.{List}
+use mathlib.Core.Path.{_≡_, _∙_}
+use lib.Dec.{lit≤}
+use lib.IntN.{ℤ, pos}
+use mir.Syntax.{w32, w64}
+use mir.Val.{SFits, toZ, ofZ}
+use Rattle.values.specs.IntLaws.{back}
+use Rattle.values.specs.RangeLaws.{widen}
+use Rattle.values.specs.Types.{layout, number, bytes, contentSize, fits}
+use Rattle.values.specs.Words.{word, signed}
+use Rattle.values.specs.declared.datatypes.PrimitiveType.{PrimitiveType}
+use Rattle.expr.specs.Operators.{arity}
+use Rattle.expr.specs.declared.operator.PredicateOperator.{PredicateOperator}
+use Rattle.sheet.specs.ReadAnswers.{numberAt, takes}
+use Rattle.sheet.specs.PartLaws.{in-record}
+use Rattle.sheet.specs.Records.{headerSize, recordSize}
+
+module _ {ty kind : PrimitiveType} (is : ty ≡ kind) where
+  pub fits-arm : {r : Bool} (k : ℕ) → r ≡ fits (layout kind) k → r ≡ fits (layout ty) k
+  fits-arm k e = rw is e
+
+  module _ (s : List ℕ) (k : ℕ) where
+    module _ {z : ℤ} where
+      numbered : (n : ℕ) → headerSize + n ≤ recordSize → layout kind ≡ number n → z ≡ signed n (word (recordSize * k + headerSize) n s)
+          → z ≡ numberAt (layout ty) s k
+      numbered n h e d = d ∙ rw (is, e, in-record s k headerSize n h)
+
+      pub four-bytes : layout kind ≡ number 4 → SFits w32 z → z ≡ signed 4 (word (recordSize * k + headerSize) 4 s)
+          → toZ w64 (ofZ w64 (toZ w32 (ofZ w32 z))) ≡ numberAt (layout ty) s k
+      four-bytes e f d = rw (back f, back (widen f)) (numbered 4 (lit≤ tt) e d)
+
+      pub eight-bytes : layout kind ≡ number 8 → SFits w64 z → z ≡ signed 8 (word (recordSize * k + headerSize) 8 s)
+          → toZ w64 (ofZ w64 z) ≡ numberAt (layout ty) s k
+      eight-bytes e f d = rw (back f) (numbered 8 (lit≤ tt) e d)
+
+    pub no-number : layout kind ≡ bytes contentSize → pos 0 ≡ numberAt (layout ty) s k
+    no-number e = rw (is, e)
+
+pub cast-up : {z : ℤ} → SFits w32 z → SFits w64 (toZ w32 (ofZ w32 z))
+cast-up f = rw (back f) (widen f)
+
+pub ruleset numbering = (four-bytes, eight-bytes, no-number)
+
+pub takes-arm : {o kind : PredicateOperator} (is : o ≡ kind) {r : Bool} (n : ℕ) → r ≡ takes (arity kind) n → r ≡ takes (arity o) n
+takes-arm is n e = rw is e

@@ -1,0 +1,14 @@
+-- The definitions of `sheet`, in the order in which to read them, and then the laws about them.
+pub mod Records
+pub mod Sheets
+pub mod Values
+pub mod Written
+pub mod ReadAnswers
+pub mod RecordLaws
+pub mod SheetLaws
+pub mod WrittenLaws
+pub mod RefusalLaws
+pub mod WriteLaws
+pub mod PartLaws
+pub mod WalkLaws
+pub mod StepLaws

@@ -1,0 +1,109 @@
+-- What the code that reads sheets answers, as the definitions have it: its enums, and the records that the numbers it hands on name. Assumes nothing.
+use Prim.Native.Nat.{ℕ, _+_, _-_, _*_, _/_, _≤_, _<_}
+use mathlib.Core.Bool.{Bool, true, false}
+use mathlib.Core.List.{List, map, _++_}
+use mathlib.Core.Path.{_≡_}
+use lib.Dec.{eqb}
+use lib.IntN.{ℤ, pos}
+use lib.ListN.{length, getD, take}
+use Rattle.values.specs.Numbered.{find}
+use Rattle.values.specs.Outcomes.{Res, ok, err, need, _>>=_, _>>_, Row, missing, present}
+use Rattle.values.specs.Types.{Layout, number, bytes, layout, contentSize, fits}
+use Rattle.values.specs.Words.{leNumber, field, word, zeroAt, signed}
+use Rattle.values.specs.declared.error.ErrorKind.the-variants.{Malformed}
+use Rattle.expr.specs.Operators.{operators, Arity, none, one, many}
+use Rattle.expr.specs.Predicates.{operatorIn, literalsIn}
+use Rattle.sheet.specs.Records.{headerSize, recordSize, recordAt, lengthIn}
+use Rattle.sheet.specs.Sheets as sheets
+use Rattle.sheet.specs.declared.chain.Walked.{Walked}
+use Rattle.sheet.specs.declared.chain.Walked.the-variants as walked
+use Rattle.sheet.specs.declared.head.Head.{Head}
+use Rattle.sheet.specs.declared.head.HeadResult.{HeadResult}
+use Rattle.sheet.specs.declared.head.HeadResult.the-variants as head-result
+use Rattle.sheet.specs.declared.sheet.Sheet.{Sheet}
+use Rattle.sheet.specs.declared.sheet.SheetResult.{SheetResult}
+use Rattle.sheet.specs.declared.sheet.SheetResult.the-variants as sheet-result
+use Rattle.sheet.specs.declared.value.ValueResult.{ValueResult}
+use Rattle.sheet.specs.declared.value.ValueResult.the-variants as value-result
+
+abbrev pub isOk : {A : Type 0} → Res A → Bool
+isOk (ok x) = true
+isOk (err e) = false
+
+-- ---- records by their numbers
+
+abbrev pub recordCount : List ℕ → ℕ
+recordCount s = length s / recordSize
+
+-- the content of record k, as long as the record says
+abbrev pub contentAt : List ℕ → ℕ → List ℕ
+contentAt s k = field headerSize (lengthIn (recordAt s k)) (recordAt s k)
+
+-- the number that record k holds, of a type with numbers
+abbrev pub numberAt : Layout → List ℕ → ℕ → ℤ
+numberAt (number n) s k = signed n (leNumber (field headerSize n (recordAt s k)))
+numberAt (bytes n) s k = pos 0
+
+-- record k is there, and its content has a length of the layout, which is no more than a record has room for
+pub record LiteralAt (l : Layout) (s : List ℕ) (k : ℕ) : Type 0 where
+  pub there : recordSize * (k + 1) ≤ length s
+  pub short : lengthIn (recordAt s k) ≤ contentSize
+  pub fitting : fits l (lengthIn (recordAt s k)) ≡ true
+
+-- ---- the walk along the chain
+
+-- so many numbers as were there before, and those found
+abbrev pub walkedAs : ℕ → Res (List ℕ) → Walked
+walkedAs filled (ok ns) = walked.Literals (filled + length ns)
+walkedAs filled (err e) = walked.Malformed
+
+-- the numbers found stand behind those that were there before
+pub record Stored (filled : ℕ) (found : Res (List ℕ)) (before after : List ℕ) : Type 0 where
+  pub stored : (ns : List ℕ) → found ≡ ok ns → take (filled + length ns) after ≡ take filled before ++ ns
+  pub kept : length after ≡ length before
+
+-- ---- the head
+
+-- what a sheet's first record says beside its next
+unfoldable pub headIn : List ℕ → Res Head
+headIn s = do
+  operator ← find operators (word 2 2 s)
+  h ← sheets.head (word 4 1 s) (word 5 1 s) (word 8 4 s)
+  need (zeroAt 6 2 s) Malformed
+  need (zeroAt 12 (recordSize - 12) s) Malformed
+  ok (record { operator = operator; column = h .column; transform = h .transform })
+
+abbrev pub headResult : Res Head → HeadResult
+headResult (ok h) = head-result.Ok h
+headResult (err e) = head-result.Err e
+
+-- ---- a sheet
+
+-- an operator of the arity takes so many literals
+abbrev pub takes : Arity → ℕ → Bool
+takes (none o) n = eqb n 0
+takes (one o) n = eqb n 1
+takes (many o) n = true
+
+abbrev pub sheetRead : sheets.Sheet → Sheet
+sheetRead x = record {
+  head = record { operator = operatorIn (x .leaf); column = x .head .column; transform = x .head .transform };
+  count = length (literalsIn (x .leaf));
+}
+
+abbrev pub sheetResult : Res sheets.Sheet → SheetResult
+sheetResult (ok x) = sheet-result.Ok (sheetRead x)
+sheetResult (err e) = sheet-result.Err e
+
+-- the literals of a sheet that was read are the contents of the records that the first numbers name
+pub record LiteralsRead (s numbers : List ℕ) (x : sheets.Sheet) : Type 0 where
+  pub literals : literalsIn (x .leaf) ≡ map (contentAt s) (take (length (literalsIn (x .leaf))) numbers)
+  pub each : (i : ℕ) → i < length (literalsIn (x .leaf)) → LiteralAt (layout (x .head .column)) s (getD numbers i 0)
+
+-- ---- a value
+
+-- of a value that is present, how many bytes it has
+abbrev pub valueResult : Res (Row (List ℕ)) → ValueResult
+valueResult (ok missing) = value-result.Missing
+valueResult (ok (present bs)) = value-result.Present (length bs)
+valueResult (err e) = value-result.Err e

@@ -1,0 +1,195 @@
+-- Records: a literal or a value that is written is read, and what is read has a length that its type allows. Assumes nothing.
+use Prim.Native.Nat.{ℕ, zero, suc, _+_, _-_, _≤_, _<_}
+use native.Mathlib.Omega.{arith}
+use mathlib.Core.Bool.{Bool, true, false, cond}
+use mathlib.Core.List.{List, [], _∷_}
+use mathlib.Core.Path.{_≡_, refl, sym, ap, subst, _∙_}
+use lib.Dec.{eqb}
+use lib.ListN.{length, drop, replicate, length-append, length-drop, length-replicate}
+use lib.Seq.{take-at, drop-at, take-all, length-take-le}
+use borrow.Author.Tests.{leb-true, eqb-true, eq-eqb, ne-eqb}
+use Rattle.values.specs.Outcomes.{Res, ok, err, need, _>>_, Row, missing, present}
+use Rattle.values.specs.OutcomeLaws.{ok-inj, passing, failing, passed, going, gone}
+use Rattle.values.specs.Types.{Layout, contentSize, layout, fits}
+use Rattle.values.specs.Words.{leNumber, field, zeroAt}
+use Rattle.values.specs.WordLaws.{number-bytes, AllBytes}
+use Rattle.values.specs.declared.datatypes.PrimitiveType.{PrimitiveType}
+use Rattle.values.specs.declared.datatypes.PrimitiveType.the-variants.{Int, Long, Date, Time, Timestamp, Timestamptz, TimestampNs, TimestamptzNs, String, Binary}
+use Rattle.values.specs.declared.error.ErrorKind.the-variants.{Malformed}
+use Rattle.sheet.specs.Records.{headerSize, recordSize, nextIn, lengthIn, content, missingMark, missingValue, presentValue, value}
+use Rattle.sheet.specs.Written.{literalRecord, valueRecord}
+
+-- no type allows more bytes than a record has room for
+pub fits-room : (ty : PrimitiveType) (n : ℕ) → fits (layout ty) n ≡ true → n ≤ contentSize
+fits-room Int n h = omega (arith, eqb-true n 4 h)
+fits-room Long n h = omega (arith, eqb-true n 8 h)
+fits-room Date n h = omega (arith, eqb-true n 4 h)
+fits-room Time n h = omega (arith, eqb-true n 8 h)
+fits-room Timestamp n h = omega (arith, eqb-true n 8 h)
+fits-room Timestamptz n h = omega (arith, eqb-true n 8 h)
+fits-room TimestampNs n h = omega (arith, eqb-true n 8 h)
+fits-room TimestamptzNs n h = omega (arith, eqb-true n 8 h)
+fits-room String n h = leb-true n contentSize h
+fits-room Binary n h = leb-true n contentSize h
+
+-- the bytes of a row, if it has any, have a length that the type allows
+abbrev pub FitsRow : PrimitiveType → Row (List ℕ) → Type 0
+FitsRow ty missing = Unit {0}
+FitsRow ty (present bs) = fits (layout ty) (length bs) ≡ true
+
+-- ---- what is written
+number-zeros : (n : ℕ) → leNumber (replicate n 0) ≡ 0
+number-zeros zero = refl
+number-zeros (suc n) = omega (arith, number-zeros n)
+
+pub next-back : (n : ℕ) (bs : List ℕ) → n < 65536 → nextIn (literalRecord n bs) ≡ n
+next-back n bs h = number-bytes 2 n h
+
+module _ (n : ℕ) (bs : List ℕ) (room : length bs ≤ contentSize) where
+  abbrev zeros : List ℕ
+  zeros = replicate (contentSize - length bs) 0
+
+  length-zeros : length zeros ≡ contentSize - length bs
+  length-zeros = length-replicate (contentSize - length bs) 0
+
+  pub length-literal : length (literalRecord n bs) ≡ recordSize
+  length-literal = omega (arith, length-append bs zeros, length-zeros)
+
+  pub length-back : lengthIn (literalRecord n bs) ≡ length bs
+  length-back = number-bytes 2 (length bs) (omega arith)
+
+  pub field-back : field headerSize (length bs) (literalRecord n bs) ≡ bs
+  field-back = take-at bs zeros (length bs) refl
+
+  zeros-back : zeroAt (headerSize + length bs) (contentSize - length bs) (literalRecord n bs) ≡ true
+  zeros-back =
+      let start : headerSize + length bs ≡ suc (suc (suc (suc (length bs)))) = omega arith in
+      let after : drop (headerSize + length bs) (literalRecord n bs) ≡ zeros = rw start (drop-at bs zeros (length bs) refl) in
+      let whole : field (headerSize + length bs) (contentSize - length bs) (literalRecord n bs) ≡ zeros
+      = rw after (take-all (contentSize - length bs) zeros (omega (arith, length-zeros))) in
+      eq-eqb _ 0 (ap leNumber whole ∙ number-zeros (contentSize - length bs))
+
+pub length-value : (ty : PrimitiveType) (row : Row (List ℕ)) → FitsRow ty row → length (valueRecord row) ≡ recordSize
+length-value ty missing h = refl
+length-value ty (present bs) h = length-literal 0 bs (fits-room ty (length bs) h)
+
+-- `content`, with the length that it reads as an argument
+abbrev contentAt : ℕ → Layout → List ℕ → Res (List ℕ)
+contentAt n l r = do
+  need (eqb (length r) recordSize) Malformed
+  need (fits l n) Malformed
+  need (zeroAt (headerSize + n) (contentSize - n) r) Malformed
+  ok (field headerSize n r)
+
+pub content-back : (ty : PrimitiveType) (n : ℕ) (bs : List ℕ) → fits (layout ty) (length bs) ≡ true
+    → content (layout ty) (literalRecord n bs) ≡ ok bs
+unfolding content
+content-back ty n bs h =
+    let room = fits-room ty (length bs) h in
+    ap (λ (k : ℕ). contentAt k (layout ty) (literalRecord n bs)) (length-back n bs room)
+    ∙ passing Malformed _ (eq-eqb _ recordSize (length-literal n bs room))
+    ∙ passing Malformed _ h
+    ∙ passing Malformed _ (zeros-back n bs room)
+    ∙ ap ok (field-back n bs room)
+
+pub value-back : (ty : PrimitiveType) (row : Row (List ℕ)) → FitsRow ty row → value (layout ty) (valueRecord row) ≡ ok row
+unfolding value
+value-back ty missing h = refl
+value-back ty (present bs) h =
+    let r = literalRecord 0 bs in
+    let room = fits-room ty (length bs) h in
+    let other : eqb (lengthIn r) missingMark ≡ false = ne-eqb (lengthIn r) missingMark (λ e. omega (arith, length-back 0 bs room)) in
+    ap (λ (b : Bool). cond b (missingValue r) (presentValue (layout ty) r)) other
+    ∙ going (λ (b : List ℕ). ok (present b)) (content-back ty 0 bs h)
+
+-- ---- what is read
+pub record ContentRead (l : Layout) (r bs : List ℕ) : Type 0 where
+  pub whole : length r ≡ recordSize
+  pub fit : fits l (lengthIn r) ≡ true
+  pub rest-zero : zeroAt (headerSize + lengthIn r) (contentSize - lengthIn r) r ≡ true
+  pub is-field : bs ≡ field headerSize (lengthIn r) r
+
+pub content-read : (l : Layout) (r bs : List ℕ) → content l r ≡ ok bs → ContentRead l r bs
+unfolding content
+content-read l r bs e =
+    let a = passed (eqb (length r) recordSize) Malformed _ e in
+    let b = passed (fits l (lengthIn r)) Malformed _ (a .1) in
+    let c = passed (zeroAt (headerSize + lengthIn r) (contentSize - lengthIn r) r) Malformed _ (b .1) in
+    record { whole = eqb-true (length r) recordSize (a .0); fit = b .0; rest-zero = c .0; is-field = sym (ok-inj (c .1)) }
+
+pub content-length : (ty : PrimitiveType) (r bs : List ℕ) → content (layout ty) r ≡ ok bs → length bs ≡ lengthIn r
+content-length ty r bs e =
+    let x = content-read (layout ty) r bs e in
+    let room = fits-room ty (lengthIn r) (x .fit) in
+    ap length (x .is-field) ∙ length-take-le (lengthIn r) (drop headerSize r) (omega (arith, length-drop headerSize r, x .whole))
+
+pub content-fits : (ty : PrimitiveType) (r bs : List ℕ) → content (layout ty) r ≡ ok bs → fits (layout ty) (length bs) ≡ true
+content-fits ty r bs e = rw (content-length ty r bs e) (content-read (layout ty) r bs e .fit)
+
+-- a part of bytes is bytes
+pub field-bytes : (at n : ℕ) (s : List ℕ) → AllBytes s → AllBytes (field at n s)
+field-bytes zero zero s h i = omega arith
+field-bytes zero (suc n) [] h i = omega arith
+field-bytes zero (suc n) (b ∷ s) h zero = h 0
+field-bytes zero (suc n) (b ∷ s) h (suc i) = field-bytes zero n s (λ j. h (suc j)) i
+field-bytes (suc at) zero [] h i = omega arith
+field-bytes (suc at) (suc n) [] h i = omega arith
+field-bytes (suc at) n (b ∷ s) h i = field-bytes at n s (λ j. h (suc j)) i
+
+pub content-bytes : (l : Layout) (r bs : List ℕ) → content l r ≡ ok bs → AllBytes r → AllBytes bs
+content-bytes l r bs e h = rw (content-read l r bs e .is-field) (field-bytes headerSize (lengthIn r) r h)
+
+-- ---- values
+-- the bytes of a row, if it has any, are bytes
+abbrev pub RowBytes : Row (List ℕ) → Type 0
+RowBytes missing = Unit {0}
+RowBytes (present bs) = AllBytes bs
+
+pub record ValueRead (ty : PrimitiveType) (r : List ℕ) (row : Row (List ℕ)) : Type 0 where
+  pub whole : length r ≡ recordSize
+  pub next-zero : nextIn r ≡ 0
+  pub fit : FitsRow ty row
+  pub are-bytes : AllBytes r → RowBytes row
+
+module _ (ty : PrimitiveType) (r : List ℕ) (next : nextIn r ≡ 0) where
+  missing-read : {row : Row (List ℕ)} → missingValue r ≡ ok row → ValueRead ty r row
+  missing-read {row} e =
+      let a = passed (eqb (length r) recordSize) Malformed _ e in
+      let b = passed (zeroAt headerSize contentSize r) Malformed _ (a .1) in
+      subst (ValueRead ty r) (ok-inj (b .1)) (record { whole = eqb-true (length r) recordSize (a .0); next-zero = next; fit = tt; are-bytes = λ h. tt })
+
+  present-read : {row : Row (List ℕ)} → presentValue (layout ty) r ≡ ok row → ValueRead ty r row
+  present-read {row} e =
+      let a = gone (content (layout ty) r) (λ (bs : List ℕ). ok (present bs)) e in
+      subst (ValueRead ty r) (ok-inj (a .2)) (record {
+        whole = content-read (layout ty) r (a .0) (a .1) .whole;
+        next-zero = next;
+        fit = content-fits ty r (a .0) (a .1);
+        are-bytes = content-bytes (layout ty) r (a .0) (a .1);
+      })
+
+pub value-read : (ty : PrimitiveType) (r : List ℕ) (row : Row (List ℕ)) → value (layout ty) r ≡ ok row → ValueRead ty r row
+unfolding value
+value-read ty r row e =
+    let a = passed (eqb (nextIn r) 0) Malformed _ e in
+    let next = eqb-true (nextIn r) 0 (a .0) in
+    go next (eqb (lengthIn r) missingMark) (a .1)
+  where
+    go : nextIn r ≡ 0 → (b : Bool) → cond b (missingValue r) (presentValue (layout ty) r) ≡ ok row → ValueRead ty r row
+    go next true k = missing-read ty r next k
+    go next false k = present-read ty r next k
+
+-- ---- a record of another length is refused
+module _ (l : Layout) (r : List ℕ) (other : length r ≡ recordSize → ⊥) where
+  pub content-other : content l r ≡ err Malformed
+  unfolding content
+  content-other = failing Malformed _ (ne-eqb (length r) recordSize other)
+
+  pub value-other : value l r ≡ err Malformed
+  unfolding value
+  value-other = go (eqb (nextIn r) 0) (eqb (lengthIn r) missingMark)
+    where
+      go : (a b : Bool) → (need a Malformed >> cond b (missingValue r) (presentValue l r)) ≡ err Malformed
+      go false b = refl
+      go true true = failing Malformed _ (ne-eqb (length r) recordSize other)
+      go true false = rw content-other

@@ -1,0 +1,234 @@
+-- The walk along the chain by record numbers, which tests each literal as it comes to it: what it finds, that this is what `sheet` reads, and one law a
+-- step. Assumes nothing.
+use Prim.Native.Nat.{ℕ, zero, suc, _+_, _-_, _*_, _≤_, _<_}
+use native.Mathlib.Omega.{arith}
+use mathlib.Core.Bool.{Bool, true, false, cond}
+use mathlib.Core.List.{List, [], _∷_, map}
+use mathlib.Core.Path.{_≡_, refl, sym, ap, subst, _∙_}
+use lib.Dec.{eqb}
+use lib.ListN.{length, getD, drop}
+use lib.Seq.{drop-drop}
+use borrow.Author.Tests.{eq-eqb, ne-eqb}
+use Rattle.values.specs.OutcomeLaws.{ok-inj, ok-not-err, passed, gone}
+use Rattle.values.specs.Outcomes.{Res, ok, err, need, each, _>>=_, _>>_}
+use Rattle.values.specs.Types.{Layout, layout, fits}
+use Rattle.values.specs.declared.datatypes.PrimitiveType.{PrimitiveType}
+use Rattle.values.specs.declared.error.ErrorKind.{ErrorKind}
+use Rattle.values.specs.declared.error.ErrorKind.the-variants.{Malformed}
+use Rattle.sheet.specs.ReadAnswers.{isOk, recordCount, contentAt, LiteralAt}
+use Rattle.sheet.specs.RecordLaws.{fits-room}
+use Rattle.sheet.specs.PartLaws.{content-by, content-fits}
+use Rattle.sheet.specs.Records.{recordSize, records, nextIn, lengthIn, content, recordAt}
+use Rattle.sheet.specs.Sheets.{chain}
+
+-- one number more, of a record that has to hold a literal
+abbrev pub withNumber : Layout → List ℕ → ℕ → Res (List ℕ) → Res (List ℕ)
+withNumber l s k rest = do
+  need (isOk (content l (recordAt s k))) Malformed
+  ns ← rest
+  ok (k ∷ ns)
+
+-- as `chain`, by numbers: of the m records k, k + 1, .. of s, the numbers of those on the chain that goes on at record n
+abbrev pub numbersOn : Layout → List ℕ → ℕ → ℕ → ℕ → Res (List ℕ)
+numbersOn l s k n zero = do
+  need (eqb n 0) Malformed
+  ok []
+numbersOn l s k n (suc m) =
+    let on = withNumber l s k (numbersOn l s (suc k) (nextIn (recordAt s k)) m) in
+    let off = numbersOn l s (suc k) n m in
+    cond (eqb n 0) (ok []) (cond (eqb n k) on off)
+
+-- the numbers of the literals after record `at` on its chain
+unfoldable pub numbersFrom : Layout → List ℕ → ℕ → Res (List ℕ)
+numbersFrom l s at = numbersOn l s (suc at) (nextIn (recordAt s at)) (recordCount s - suc at)
+
+-- ---- one law a step
+module _ (l : Layout) (s : List ℕ) where
+  numbers-end : (k m : ℕ) → numbersOn l s k 0 m ≡ ok []
+  numbers-end k zero = refl
+  numbers-end k (suc m) = refl
+
+  -- the next is k + d, among the m records from record k on
+  numbers-hop : (d m k : ℕ) → 0 < k → d < m
+      → numbersOn l s k (k + d) m ≡ withNumber l s (k + d) (numbersOn l s (suc (k + d)) (nextIn (recordAt s (k + d))) (m - suc d))
+  numbers-hop d zero k g h = absurd (omega arith)
+  numbers-hop zero (suc m) k g h =
+      let e : k + 0 ≡ k = omega arith in
+      let i : suc m - 1 ≡ m = omega arith in
+      rw (e, ne-eqb k 0 (λ j. omega arith), eq-eqb k k refl, i)
+  numbers-hop (suc d) (suc m) k g h =
+      let e : k + suc d ≡ suc k + d = omega arith in
+      let i : suc m - suc (suc d) ≡ m - suc d = omega arith in
+      rw (ne-eqb (k + suc d) 0 (λ j. omega arith), ne-eqb (k + suc d) k (λ j. omega arith), e, i)
+      (numbers-hop d m (suc k) (omega arith) (omega arith))
+
+  -- a next that is not 0, and below k or past the last record
+  numbers-broken : (n m k : ℕ) → (n ≡ 0 → ⊥) → ((j : ℕ) → j < m → n ≡ k + j → ⊥) → numbersOn l s k n m ≡ err Malformed
+  numbers-broken n zero k g h = rw (ne-eqb n 0 g)
+  numbers-broken n (suc m) k g h =
+      rw (ne-eqb n 0 g, ne-eqb n k (λ e. h 0 (omega arith) (omega arith)))
+      (numbers-broken n m (suc k) g (λ j i e. h (suc j) (omega arith) (omega arith)))
+
+  module _ (at n : ℕ) (is : n ≡ nextIn (recordAt s at)) where
+    pub walk-end : n ≡ 0 → numbersFrom l s at ≡ ok []
+    unfolding numbersFrom
+    walk-end z = rw (← is, z) (numbers-end (suc at) (recordCount s - suc at))
+
+    pub walk-back : (n ≡ 0 → ⊥) → n ≤ at → numbersFrom l s at ≡ err Malformed
+    unfolding numbersFrom
+    walk-back z h = rw (← is) (numbers-broken n (recordCount s - suc at) (suc at) z (λ j i e. omega arith))
+
+    pub walk-past : (n ≡ 0 → ⊥) → recordCount s ≤ n → numbersFrom l s at ≡ err Malformed
+    unfolding numbersFrom
+    walk-past z h = rw (← is) (numbers-broken n (recordCount s - suc at) (suc at) z (λ j i e. omega arith))
+
+    pub walk-on : at < n → n < recordCount s → numbersFrom l s at ≡ withNumber l s n (numbersFrom l s n)
+    unfolding numbersFrom
+    walk-on a b =
+        let d = n - suc at in
+        let e : suc at + d ≡ n = omega arith in
+        let f : (recordCount s - suc at) - suc d ≡ recordCount s - suc n = omega arith in
+        let left = recordCount s - suc n in
+        rw (← is)
+        (subst (λ (x : ℕ). numbersOn l s (suc at) x (recordCount s - suc at) ≡ withNumber l s x (numbersOn l s (suc x) (nextIn (recordAt s x)) left)) e
+        (rw (← f) (numbers-hop d (recordCount s - suc at) (suc at) (omega arith) (omega arith))))
+
+-- ---- what `sheet` reads
+
+-- the contents of the records with the numbers found
+abbrev pub contentsOf : List ℕ → Res (List ℕ) → Res (List (List ℕ))
+contentsOf s found = do
+  ns ← found
+  ok (map (contentAt s) ns)
+
+-- a result that is refused by 3 alone
+pub record OnlyMalformed {A : Type 0} (r : Res A) : Type 0 where
+  pub only : (e : ErrorKind) → r ≡ err e → e ≡ Malformed
+
+module _ {A : Type 0} where
+  fine : {x : A} → OnlyMalformed (ok x)
+  fine = record { only = λ e q. ok-not-err (sym q) }
+
+  needed : (b : Bool) (r : Res A) → OnlyMalformed r → OnlyMalformed (need b Malformed >> r)
+  needed true r h = h
+  needed false r h = record { only = λ e q. cc }
+
+  chosen : (b : Bool) (r q : Res A) → OnlyMalformed r → OnlyMalformed q → OnlyMalformed (cond b r q)
+  chosen true r q f g = f
+  chosen false r q f g = g
+
+  mapped : {B : Type 0} (r : Res B) (f : B → A) → OnlyMalformed r → OnlyMalformed (r >>= λ x. ok (f x))
+  mapped (ok x) f h = fine
+  mapped (err d) f h = record { only = λ e q. h .only e (cc) }
+
+chain-malformed : (rs : List (List ℕ)) (k n : ℕ) → OnlyMalformed (chain k n rs)
+chain-malformed [] k n = needed (eqb n 0) (ok []) fine
+chain-malformed (r ∷ rs) k n =
+    chosen (eqb n 0) (ok []) _ fine
+    (chosen (eqb n k) _ _ (mapped (chain (suc k) (nextIn r) rs) (λ rs. r ∷ rs) (chain-malformed rs (suc k) (nextIn r))) (chain-malformed rs (suc k) n))
+
+module _ (l : Layout) (s : List ℕ) where
+  further : (k : ℕ) → drop recordSize (drop (recordSize * k) s) ≡ drop (recordSize * suc k) s
+  further k = let e : recordSize * k + recordSize ≡ recordSize * suc k = omega arith in drop-drop recordSize (recordSize * k) s ∙ ap (λ i. drop i s) e
+
+  -- record k on the chain: its content is tested after the rest of the chain, or before it
+  on-both : (k : ℕ) (c : Res (List (List ℕ))) (rest : Res (List ℕ)) (b : Bool) → isOk (content l (recordAt s k)) ≡ b
+      → OnlyMalformed c → (c >>= each (content l)) ≡ contentsOf s rest
+      → ((c >>= λ rs. ok (recordAt s k ∷ rs)) >>= each (content l)) ≡ contentsOf s (need b Malformed >> (rest >>= λ ns. ok (k ∷ ns)))
+  on-both k (ok rs) (ok ns) true q f h = rw (content-by l (recordAt s k) q, h)
+  on-both k (ok rs) (err e) true q f h = rw (content-by l (recordAt s k) q, h)
+  on-both k (ok rs) rest false q f h = rw (content-by l (recordAt s k) q)
+  on-both k (err e) (ok ns) true q f h = ok-not-err h
+  on-both k (err e) (err d) true q f h = h
+  on-both k (err e) rest false q f h = ap err (f .only e refl)
+
+  choose : (a b : Bool) (on off : Res (List (List ℕ))) (ons offs : Res (List ℕ)) → (on >>= each (content l)) ≡ contentsOf s ons
+      → (off >>= each (content l)) ≡ contentsOf s offs
+      → (cond a (ok []) (cond b on off) >>= each (content l)) ≡ contentsOf s (cond a (ok []) (cond b ons offs))
+  choose true b on off ons offs f g = refl
+  choose false true on off ons offs f g = f
+  choose false false on off ons offs f g = g
+
+  ended : (b : Bool) → ((need b Malformed >> ok []) >>= each (content l)) ≡ contentsOf s (need b Malformed >> ok [])
+  ended true = refl
+  ended false = refl
+
+  -- of the m records k, k + 1, ..: the contents on the chain that goes on at record n are those of the records with the numbers found
+  pub numbers-chain : (m k n : ℕ) → (chain k n (records m (drop (recordSize * k) s)) >>= each (content l)) ≡ contentsOf s (numbersOn l s k n m)
+  numbers-chain zero k n = ended (eqb n 0)
+  numbers-chain (suc m) k n =
+      let r = recordAt s k in
+      let rs = records m (drop (recordSize * suc k) s) in
+      rw (further k)
+      (choose (eqb n 0) (eqb n k) _ _ _ _
+      (on-both k (chain (suc k) (nextIn r) rs) (numbersOn l s (suc k) (nextIn r) m) (isOk (content l r)) refl (chain-malformed rs (suc k) (nextIn r))
+      (numbers-chain m (suc k) (nextIn r)))
+      (numbers-chain m (suc k) n))
+
+  -- the literals after record `at` on its chain
+  pub numbers-from-chain : (at : ℕ)
+      → (chain (suc at) (nextIn (recordAt s at)) (records (recordCount s - suc at) (drop (recordSize * suc at) s)) >>= each (content l))
+      ≡ contentsOf s (numbersFrom l s at)
+  unfolding numbersFrom
+  numbers-from-chain at = numbers-chain (recordCount s - suc at) (suc at) (nextIn (recordAt s at))
+
+module _ (l : Layout) (s : List ℕ) where
+  numbers-malformed : (m k n : ℕ) → OnlyMalformed (numbersOn l s k n m)
+  numbers-malformed zero k n = needed (eqb n 0) (ok []) fine
+  numbers-malformed (suc m) k n =
+      let r = recordAt s k in
+      chosen (eqb n 0) (ok []) _ fine
+      (chosen (eqb n k) _ _
+      (needed (isOk (content l r)) _ (mapped (numbersOn l s (suc k) (nextIn r) m) (λ ns. k ∷ ns) (numbers-malformed m (suc k) (nextIn r))))
+      (numbers-malformed m (suc k) n))
+
+  pub walk-malformed : (at : ℕ) → OnlyMalformed (numbersFrom l s at)
+  unfolding numbersFrom
+  walk-malformed at = numbers-malformed (recordCount s - suc at) (suc at) (nextIn (recordAt s at))
+
+-- ---- the numbers found: they rise from above `low`, each is the number of a record, and that record holds a literal
+pub data LiteralsAbove (l : Layout) (s : List ℕ) : ℕ → List ℕ → Type 0 where
+  none : {low : ℕ} → LiteralsAbove l s low []
+  more : {low k : ℕ} {ns : List ℕ} → low < k → k < recordCount s → content l (recordAt s k) ≡ ok (contentAt s k) → LiteralsAbove l s k ns
+      → LiteralsAbove l s low (k ∷ ns)
+
+module _ {l : Layout} {s : List ℕ} where
+  from-lower : {low k : ℕ} {ns : List ℕ} → k ≤ low → LiteralsAbove l s low ns → LiteralsAbove l s k ns
+  from-lower h none = none
+  from-lower {low} {k} h (more {k = n} a b c rest) = more {low = k} {k = n} (omega arith) b c rest
+
+  pub few-above : {low : ℕ} {ns : List ℕ} → low < recordCount s → LiteralsAbove l s low ns → low + length ns < recordCount s
+  few-above h none = omega arith
+  few-above h (more a b c rest) = omega (arith, few-above b rest)
+
+module _ (l : Layout) (s : List ℕ) where
+  numbers-above : (m k n : ℕ) {ns : List ℕ} → suc k + m ≤ recordCount s → numbersOn l s (suc k) n m ≡ ok ns → LiteralsAbove l s k ns
+  numbers-above zero k n h q = subst (LiteralsAbove l s k) (ok-inj (passed (eqb n 0) Malformed (ok []) q .1)) none
+  numbers-above (suc m) k n {ns} h q =
+      go (eqb n 0) (eqb n (suc k)) q (λ ms. numbers-above m (suc k) (nextIn (recordAt s (suc k))) (omega arith)) (λ ms. numbers-above m (suc k) n (omega arith))
+    where
+      r : List ℕ
+      r = recordAt s (suc k)
+
+      go : (a b : Bool) → cond a (ok []) (cond b (withNumber l s (suc k) (numbersOn l s (suc (suc k)) (nextIn r) m)) (numbersOn l s (suc (suc k)) n m)) ≡ ok ns
+          → ((ms : List ℕ) → numbersOn l s (suc (suc k)) (nextIn r) m ≡ ok ms → LiteralsAbove l s (suc k) ms)
+          → ((ms : List ℕ) → numbersOn l s (suc (suc k)) n m ≡ ok ms → LiteralsAbove l s (suc k) ms) → LiteralsAbove l s k ns
+      go true b q f g = subst (LiteralsAbove l s k) (ok-inj q) none
+      go false false q f g = from-lower (omega arith) (g ns q)
+      go false true q f g =
+          let a = passed (isOk (content l r)) Malformed _ q in
+          let c = gone (numbersOn l s (suc (suc k)) (nextIn r) m) _ (a .1) in
+          subst (LiteralsAbove l s k) (ok-inj (c .2)) (more (omega arith) (omega arith) (content-by l r (a .0)) (f (c .0) (c .1)))
+
+  pub literals-above : (at : ℕ) {ns : List ℕ} → at < recordCount s → numbersFrom l s at ≡ ok ns → LiteralsAbove l s at ns
+  unfolding numbersFrom
+  literals-above at h q = numbers-above (recordCount s - suc at) at (nextIn (recordAt s at)) (omega arith) q
+
+-- by their places in the list
+pub literal-at : (t : PrimitiveType) (s : List ℕ) {low : ℕ} {ns : List ℕ} → LiteralsAbove (layout t) s low ns
+    → (i : ℕ) → i < length ns → LiteralAt (layout t) s (getD ns i 0)
+literal-at t s none i h = absurd (omega arith)
+literal-at t s (more {k = k} a b c rest) zero h =
+    let fit : fits (layout t) (lengthIn (recordAt s k)) ≡ true = content-fits (layout t) (recordAt s k) (rw c) in
+    record { there = omega arith; short = fits-room t (lengthIn (recordAt s k)) fit; fitting = fit }
+literal-at t s (more a b c rest) (suc i) h = literal-at t s rest i (omega arith)

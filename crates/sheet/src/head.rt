@@ -1,0 +1,56 @@
+// The head of a sheet: operator, column type and transform.
+use crate::records::zeros;
+use expr::operator::OperatorResult;
+use expr::operator::PredicateOperator;
+use values::datatypes::PrimitiveType;
+use values::datatypes::TypeResult;
+use values::error::ErrorKind;
+use values::transform::Transform;
+use values::transform::TransformResult;
+use values::words::u16_at;
+use values::words::u32_at;
+ghost use mathlib.Core.Path.{_≡_};
+ghost use Prim.Native.Nat.{_≤_};
+ghost use lib.ListN.{length};
+ghost use Rattle.sheet.specs.Records.{recordSize};
+ghost use Rattle.sheet.specs.ReadAnswers.{headIn, headResult};
+
+pub struct Head {
+    pub operator: PredicateOperator,
+    pub column: PrimitiveType,
+    pub transform: Transform,
+}
+
+// A head, or why there is none.
+pub enum HeadResult {
+    Ok(Head),
+    Err(ErrorKind),
+}
+
+pub fn read_head(s: &[u8]) -> HeadResult
+    requires { ⌜ recordSize ≤ length (now s) ⌝ }
+    ensures { λ r. ⌜ r ≡ headResult (headIn (now (s .entry))) ⌝ }
+{
+    let operator = match PredicateOperator::from_number(u16_at(s, 2)) {
+        OperatorResult::Ok(o) => o,
+        OperatorResult::Err(e) => return HeadResult::Err(e),
+    };
+    let column = match PrimitiveType::from_number(s[4]) {
+        TypeResult::Ok(t) => t,
+        TypeResult::Err(e) => return HeadResult::Err(e),
+    };
+    let transform = match Transform::from_numbers(s[5], u32_at(s, 8)) {
+        TransformResult::Ok(t) => t,
+        TransformResult::Err(e) => return HeadResult::Err(e),
+    };
+    if zeros(s, 6, 2) {
+        if zeros(s, 12, 52) {
+            return HeadResult::Ok(Head {
+                operator,
+                column,
+                transform,
+            });
+        }
+    }
+    HeadResult::Err(ErrorKind::Malformed)
+}

@@ -1,0 +1,63 @@
+// Literals by the numbers of their records: whether one is there, its content, and the number that it is.
+use crate::records::CONTENT_SIZE;
+use crate::records::HEADER_SIZE;
+use crate::records::RECORD_SIZE;
+use crate::records::length_fits;
+use crate::records::zeros;
+use values::datatypes::PrimitiveType;
+use values::words::i32_at;
+use values::words::i64_at;
+use values::words::u16_at;
+ghost use mathlib.Core.Path.{_≡_};
+ghost use Prim.Native.Nat.{_+_, _*_, _≤_};
+ghost use lib.ListN.{length};
+ghost use Rattle.values.specs.Types.{layout, contentSize};
+ghost use Rattle.sheet.specs.Records.{recordSize, lengthIn, content, recordAt};
+ghost use Rattle.sheet.specs.ReadAnswers.{isOk, contentAt, numberAt};
+
+// Whether record k holds a literal of the type.
+pub fn literal_ok(s: &[u8], k: usize, column: PrimitiveType) -> bool
+    requires { ⌜ recordSize * (k + 1) ≤ length (now s) ⌝ }
+    ensures { λ r. ⌜ r ≡ isOk (content (layout column) (recordAt (now (s .entry)) k)) ⌝ }
+{
+    let at = RECORD_SIZE * k;
+    let n = u16_at(s, at + 2) as usize;
+    if length_fits(column, n) {
+        zeros(s, at + HEADER_SIZE + n, CONTENT_SIZE - n)
+    } else {
+        false
+    }
+}
+
+// The content of record k, a part of the sheet.
+pub fn content_of<'a>(s: &'a [u8], k: usize) -> &'a [u8]
+    requires { ⌜ recordSize * (k + 1) ≤ length (now s) ⌝ }
+    requires { ⌜ lengthIn (recordAt (now s) k) ≤ contentSize ⌝ }
+    ensures { λ r. ⌜ now r ≡ contentAt (now (s .entry)) k ⌝ }
+{
+    let at = RECORD_SIZE * k;
+    let n = u16_at(s, at + 2) as usize;
+    let from = at + HEADER_SIZE;
+    let to = from + n;
+    &s[from..to]
+}
+
+// The number in record k, and 0 where the type has no numbers.
+pub fn number_of(s: &[u8], k: usize, column: PrimitiveType) -> i64
+    requires { ⌜ recordSize * (k + 1) ≤ length (now s) ⌝ }
+    ensures { λ r. ⌜ r ≡ numberAt (layout column) (now (s .entry)) k ⌝ }
+{
+    let at = RECORD_SIZE * k + HEADER_SIZE;
+    match column {
+        PrimitiveType::Int => i32_at(s, at) as i64,
+        PrimitiveType::Long => i64_at(s, at),
+        PrimitiveType::Date => i32_at(s, at) as i64,
+        PrimitiveType::Time => i64_at(s, at),
+        PrimitiveType::Timestamp => i64_at(s, at),
+        PrimitiveType::Timestamptz => i64_at(s, at),
+        PrimitiveType::TimestampNs => i64_at(s, at),
+        PrimitiveType::TimestamptzNs => i64_at(s, at),
+        PrimitiveType::String => 0,
+        PrimitiveType::Binary => 0,
+    }
+}

@@ -1,0 +1,84 @@
+// A whole sheet: its size, its head, and the literals on its chain.
+use crate::chain::Walked;
+use crate::chain::walk;
+use crate::head::Head;
+use crate::head::HeadResult;
+use crate::head::read_head;
+use crate::records::RECORD_SIZE;
+use expr::operator::PredicateOperator;
+use values::error::ErrorKind;
+ghost use mathlib.Core.Path.{_≡_};
+ghost use Prim.Native.Nat.{_≤_};
+ghost use lib.ListN.{length};
+ghost use Rattle.values.specs.Outcomes.{ok};
+ghost use Rattle.expr.specs.Operators.{arity};
+ghost use Rattle.sheet.specs.Sheets as sheets;
+ghost use Rattle.sheet.specs.ReadAnswers.{takes, sheetResult, LiteralsRead};
+
+pub struct Sheet {
+    pub head: Head,
+    pub count: usize,
+}
+
+// A sheet, or why there is none.
+pub enum SheetResult {
+    Ok(Sheet),
+    Err(ErrorKind),
+}
+
+// Whether an operator takes so many literals.
+fn takes_count(operator: PredicateOperator, count: usize) -> bool
+    ensures { λ r. ⌜ r ≡ takes (arity operator) count ⌝ }
+{
+    match operator {
+        PredicateOperator::IsNull => count == 0,
+        PredicateOperator::NotNull => count == 0,
+        PredicateOperator::IsNan => count == 0,
+        PredicateOperator::NotNan => count == 0,
+        PredicateOperator::LessThan => count == 1,
+        PredicateOperator::LessThanOrEq => count == 1,
+        PredicateOperator::GreaterThan => count == 1,
+        PredicateOperator::GreaterThanOrEq => count == 1,
+        PredicateOperator::Eq => count == 1,
+        PredicateOperator::NotEq => count == 1,
+        PredicateOperator::StartsWith => count == 1,
+        PredicateOperator::NotStartsWith => count == 1,
+        PredicateOperator::In => true,
+        PredicateOperator::NotIn => true,
+    }
+}
+
+// A sheet with at most so many literals; the numbers of their records go into `numbers`, in the order of the chain.
+pub fn read_sheet(s: &[u8], most: usize, numbers: &mut [u16]) -> SheetResult
+    requires { ⌜ most ≤ sheets.holdsLimit ⌝ }
+    requires { ⌜ length (now numbers) ≡ sheets.holdsLimit ⌝ }
+    ensures { λ r. ⌜ r ≡ sheetResult (sheets.sheet most (now (s .entry))) ⌝ }
+    ensures { λ r. ⌜ ((x : sheets.Sheet) → sheets.sheet most (now (s .entry)) ≡ ok x → LiteralsRead (now (s .entry)) (now (numbers .exit)) x) ⌝ }
+{
+    let size = s.len();
+    if size == 0 {
+        return SheetResult::Err(ErrorKind::Malformed);
+    }
+    if size % RECORD_SIZE != 0 {
+        return SheetResult::Err(ErrorKind::Malformed);
+    }
+    if RECORD_SIZE * (most + 1) < size {
+        return SheetResult::Err(ErrorKind::Malformed);
+    }
+    let head = match read_head(s) {
+        HeadResult::Ok(h) => h,
+        HeadResult::Err(e) => return SheetResult::Err(e),
+    };
+    let column = head.column;
+    let operator = head.operator;
+    match walk(s, column, 0, 0, numbers) {
+        Walked::Malformed => SheetResult::Err(ErrorKind::Malformed),
+        Walked::Literals(count) => {
+            if takes_count(operator, count) {
+                SheetResult::Ok(Sheet { head, count })
+            } else {
+                SheetResult::Err(ErrorKind::Malformed)
+            }
+        }
+    }
+}

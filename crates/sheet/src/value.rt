@@ -1,0 +1,43 @@
+// A value record: missing, or present with a content.
+use crate::literal::literal_ok;
+use crate::records::CONTENT_SIZE;
+use crate::records::HEADER_SIZE;
+use crate::records::RECORD_SIZE;
+use crate::records::zeros;
+use values::datatypes::PrimitiveType;
+use values::error::ErrorKind;
+use values::words::u16_at;
+ghost use mathlib.Core.Path.{_≡_};
+ghost use Rattle.values.specs.Types.{layout};
+ghost use Rattle.sheet.specs.Records.{value};
+ghost use Rattle.sheet.specs.ReadAnswers.{valueResult};
+
+// Whether a value is missing, how many bytes it has, or why it is none.
+pub enum ValueResult {
+    Missing,
+    Present(usize),
+    Err(ErrorKind),
+}
+
+pub fn read_value(v: &[u8], column: PrimitiveType) -> ValueResult
+    ensures { λ r. ⌜ r ≡ valueResult (value (layout column) (now (v .entry))) ⌝ }
+{
+    if v.len() != RECORD_SIZE {
+        return ValueResult::Err(ErrorKind::Malformed);
+    }
+    if u16_at(v, 0) != 0 {
+        return ValueResult::Err(ErrorKind::Malformed);
+    }
+    let n = u16_at(v, 2) as usize;
+    if n == 65535 {
+        if zeros(v, HEADER_SIZE, CONTENT_SIZE) {
+            return ValueResult::Missing;
+        }
+        return ValueResult::Err(ErrorKind::Malformed);
+    }
+    if literal_ok(v, 0, column) {
+        ValueResult::Present(n)
+    } else {
+        ValueResult::Err(ErrorKind::Malformed)
+    }
+}
