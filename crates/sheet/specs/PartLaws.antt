@@ -1,4 +1,4 @@
--- Laws of records: parts of a part, runs of zeros, and when a record's content is a literal. Assumes nothing.
+-- Laws of records: parts of a part, runs of zeros, when a record's content is a literal, and where a value's is. Assumes nothing.
 use Prim.Native.Nat.{ℕ, zero, suc, _+_, _-_, _*_, _^_, _≤_, _<_}
 use native.Mathlib.Nat.{mul-suc, one-le-pow}
 use native.Mathlib.Omega.{arith}
@@ -7,9 +7,9 @@ use mathlib.Core.List.{List, [], _∷_}
 use mathlib.Core.Path.{_≡_, refl, sym, ap, _∙_}
 use lib.Dec.{eqb, lit<, lit≤}
 use lib.ListN.{length, take, drop, length-drop}
-use lib.Seq.{take-nil, take-take, drop-drop, length-take-le}
+use lib.Seq.{take-all, take-nil, take-take, drop-drop, length-take-le}
 use borrow.Author.Tests.{eqb-true, leb-true, eq-eqb, ne-eqb}
-use Rattle.values.specs.Outcomes.{ok, need, _>>_}
+use Rattle.values.specs.Outcomes.{ok, need, _>>_, present}
 use Rattle.values.specs.TestLaws.{and-both}
 use Rattle.values.specs.Types.{Layout, number, layout, contentSize, fits}
 use Rattle.values.specs.WordLaws.{word-split}
@@ -18,7 +18,8 @@ use Rattle.values.specs.declared.datatypes.PrimitiveType.{PrimitiveType}
 use Rattle.values.specs.declared.datatypes.PrimitiveType.the-variants.{Int, Long, Date, Time, Timestamp, Timestamptz, TimestampNs, TimestamptzNs, String, Binary}
 use Rattle.values.specs.declared.error.ErrorKind.the-variants.{Malformed}
 use Rattle.sheet.specs.ReadAnswers.{isOk, contentAt, numberAt}
-use Rattle.sheet.specs.Records.{headerSize, recordSize, nextIn, lengthIn, content, recordAt}
+use Rattle.sheet.specs.RecordLaws.{fits-room, content-read, value-read}
+use Rattle.sheet.specs.Records.{headerSize, recordSize, nextIn, lengthIn, content, value, recordAt}
 
 -- ---- a part of a part
 drop-take : (i n : ℕ) (l : List ℕ) → drop i (take n l) ≡ take (n - i) (drop i l)
@@ -114,3 +115,22 @@ module _ (l : Layout) (s : List ℕ) (k n : ℕ) (there : recordSize * (k + 1) �
 -- the number in a record whose content is as long as its type asks
 pub number-of-content : (n : ℕ) (s : List ℕ) (k : ℕ) → lengthIn (recordAt s k) ≡ n → numberAt (number n) s k ≡ signed n (leNumber (contentAt s k))
 number-of-content n s k e = rw e
+
+-- ---- a value's content is that of its one record
+pub record ValueContent (ty : PrimitiveType) (v bs : List ℕ) : Type 0 where
+  pub there : recordSize ≤ length v
+  pub short : lengthIn (recordAt v 0) ≤ contentSize
+  pub is : contentAt v 0 ≡ bs
+  pub fit : fits (layout ty) (length bs) ≡ true
+
+pub value-content : (ty : PrimitiveType) (v bs : List ℕ) → value (layout ty) v ≡ ok (present bs) → ValueContent ty v bs
+value-content ty v bs e =
+    let read = value-read ty v (present bs) e in
+    let c = content-read (layout ty) v bs (read .is-content) in
+    let only : recordAt v 0 ≡ v = take-all recordSize v (omega (arith, read .whole)) in
+    record {
+      there = omega (arith, read .whole);
+      short = rw only (fits-room ty (lengthIn v) (c .fit));
+      is = rw only (sym (c .is-field));
+      fit = read .fit;
+    }

@@ -145,9 +145,15 @@ abbrev pub RowBytes : Row (List ℕ) → Type 0
 RowBytes missing = Unit {0}
 RowBytes (present bs) = AllBytes bs
 
+-- the bytes of a row, if it has any, are the record's content
+abbrev pub ContentOf : PrimitiveType → List ℕ → Row (List ℕ) → Type 0
+ContentOf ty r missing = Unit {0}
+ContentOf ty r (present bs) = content (layout ty) r ≡ ok bs
+
 pub record ValueRead (ty : PrimitiveType) (r : List ℕ) (row : Row (List ℕ)) : Type 0 where
   pub whole : length r ≡ recordSize
   pub next-zero : nextIn r ≡ 0
+  pub is-content : ContentOf ty r row
   pub fit : FitsRow ty row
   pub are-bytes : AllBytes r → RowBytes row
 
@@ -156,7 +162,7 @@ module _ (ty : PrimitiveType) (r : List ℕ) (next : nextIn r ≡ 0) where
   missing-read {row} e =
       let a = passed (eqb (length r) recordSize) Malformed _ e in
       let b = passed (zeroAt headerSize contentSize r) Malformed _ (a .1) in
-      subst (ValueRead ty r) (ok-inj (b .1)) (record { whole = eqb-true (length r) recordSize (a .0); next-zero = next; fit = tt; are-bytes = λ h. tt })
+      subst (ValueRead ty r) (ok-inj (b .1)) (record { whole = eqb-true (length r) recordSize (a .0); next-zero = next; is-content = tt; fit = tt; are-bytes = λ h. tt })
 
   present-read : {row : Row (List ℕ)} → presentValue (layout ty) r ≡ ok row → ValueRead ty r row
   present-read {row} e =
@@ -164,6 +170,7 @@ module _ (ty : PrimitiveType) (r : List ℕ) (next : nextIn r ≡ 0) where
       subst (ValueRead ty r) (ok-inj (a .2)) (record {
         whole = content-read (layout ty) r (a .0) (a .1) .whole;
         next-zero = next;
+        is-content = a .1;
         fit = content-fits ty r (a .0) (a .1);
         are-bytes = content-bytes (layout ty) r (a .0) (a .1);
       })

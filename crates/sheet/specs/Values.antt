@@ -43,8 +43,8 @@ eachLiteral read (test (set o ls)) = do
   xs ← each read ls
   ok (test (set o xs))
 
-abbrev pub ofRow : {A B : Type 0} → (A → Res B) → Row A → Res (Row B)
-ofRow read missing = ok missing
-ofRow read (present v) = do
+abbrev pub readRow : {A B : Type 0} → (A → Res B) → Row A → Res (Row B)
+readRow read missing = ok missing
+readRow read (present v) = do
   x ← read v
   ok (present x)

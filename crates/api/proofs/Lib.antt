@@ -1,0 +1,5 @@
+-- Lemmas that several proofs of this crate share.
+pub mod Arms
+pub mod Turns
+pub mod Rows
+pub mod HoldsReads

@@ -1,0 +1,102 @@
+-- What the code of the holds-test answers on the way, as the definitions have it. Assumes nothing.
+use Prim.Native.Nat.{ℕ, _≤_, _<_}
+use mathlib.Core.Bool.{Bool, true, false, not, _&&_, _||_}
+use mathlib.Core.List.{List, [], _∷_, map}
+use mathlib.Core.Logic.{_⊎_}
+use mathlib.Core.Path.{_≡_}
+use lib.IntN.{ℤ, pos}
+use lib.ListN.{length, getD}
+use Rattle.values.specs.Outcomes.{Res, ok, err, errorNumber, need, _>>=_, _>>_, Row, missing, present}
+use Rattle.values.specs.Types.{Layout, number, bytes, layout}
+use Rattle.values.specs.Utf8.{utf8}
+use Rattle.values.specs.Words.{leNumber, signed}
+use Rattle.values.specs.declared.datatypes.PrimitiveType.{PrimitiveType}
+use Rattle.values.specs.declared.error.ErrorKind.the-variants.{NotUtf8}
+use Rattle.expr.specs.Operators.{Arity, none, one, many}
+use Rattle.expr.specs.Holds.{Tests, numberTests, bytesTests, unaryHolds, binaryMeets, setMeets}
+use Rattle.sheet.specs.ReadAnswers.{LiteralAt}
+use Rattle.sheet.specs.Records.{value}
+use Rattle.sheet.specs.Values.{isString}
+use Rattle.api.specs.HoldsTest.{byLayout}
+use Rattle.api.specs.declared.holds.Held.{Held}
+use Rattle.api.specs.declared.holds.Held.the-variants.{Yes, No, Err}
+
+-- the first count numbers name records of a sheet that hold literals of the layout
+pub record Placed (l : Layout) (s numbers : List ℕ) (count : ℕ) : Type 0 where
+  pub room : count ≤ length numbers
+  pub each : (i : ℕ) → i < count → LiteralAt l s (getD numbers i 0)
+
+abbrev pub allUtf8 : List (List ℕ) → Bool
+allUtf8 [] = true
+allUtf8 (s ∷ ss) = utf8 s && allUtf8 ss
+
+-- a value against an operator's kind and literals, which for the other kinds are passed over
+abbrev pub missingHeld : Arity → Bool
+missingHeld (none o) = unaryHolds {A = ℕ} o missing
+missingHeld (one o) = false
+missingHeld (many o) = false
+
+abbrev pub presentHeld : {A : Type 0} → Tests A → Arity → List A → A → Bool
+presentHeld by (none o) ls v = unaryHolds o (present v)
+presentHeld by (one o) [] v = false
+presentHeld by (one o) (l ∷ ls) v = binaryMeets by o v l
+presentHeld by (many o) ls v = setMeets by o v ls
+
+abbrev pub held : {A : Type 0} → Tests A → Arity → List A → Row A → Bool
+held by a ls missing = missingHeld a
+held by a ls (present v) = presentHeld by a ls v
+
+-- ---- a row's value and the literals, as contents of records
+
+-- the value that a flag and bytes say, which count where it is present
+abbrev pub row : {A : Type 0} → Bool → A → Row A
+row true v = present v
+row false v = missing
+
+abbrev pub mapRow : {A B : Type 0} → (A → B) → Row A → Row B
+mapRow f missing = missing
+mapRow f (present v) = present (f v)
+
+abbrev pub rowUtf8 : Row (List ℕ) → Bool
+rowUtf8 missing = true
+rowUtf8 (present v) = utf8 v
+
+-- the number that a content is, of a layout with numbers
+abbrev pub numberIn : Layout → List ℕ → ℤ
+numberIn (number n) bs = signed n (leNumber bs)
+numberIn (bytes n) bs = pos 0
+
+-- a type of numbers of n bytes
+pub record NumberType (column : PrimitiveType) (n : ℕ) : Type 0 where
+  pub is : layout column ≡ number n
+  pub size : (n ≡ 4) ⊎ (n ≡ 8)
+
+abbrev pub numbersHeld : Layout → Arity → List (List ℕ) → Row (List ℕ) → Bool
+numbersHeld l a ls r = held numberTests a (map (numberIn l) ls) (mapRow (numberIn l) r)
+
+-- of a String the literals are to be UTF-8, and the value
+abbrev pub bytesHeld : PrimitiveType → Arity → List (List ℕ) → Row (List ℕ) → Res Bool
+bytesHeld column a ls r = do
+  need (not (isString column) || allUtf8 ls) NotUtf8
+  need (not (isString column) || rowUtf8 r) NotUtf8
+  ok (held bytesTests a ls r)
+
+-- the answer of the holds-test for a column, an operator's kind, literals and a value
+unfoldable pub heldOf : PrimitiveType → Arity → List (List ℕ) → Row (List ℕ) → Res Bool
+heldOf column a ls r = byLayout (layout column) (λ n. ok (numbersHeld (number n) a ls r)) (bytesHeld column a ls r)
+
+-- the same with the value as its record has it
+abbrev pub valueHeld : PrimitiveType → Arity → List (List ℕ) → List ℕ → Res Bool
+valueHeld column a ls v = value (layout column) v >>= heldOf column a ls
+
+-- ---- the code's answer
+
+abbrev pub heldAs : Res Bool → Held
+heldAs (ok true) = Yes
+heldAs (ok false) = No
+heldAs (err e) = Err e
+
+abbrev pub heldCode : Held → ℕ
+heldCode Yes = 0
+heldCode No = 1
+heldCode (Err e) = errorNumber e

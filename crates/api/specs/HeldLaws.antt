@@ -1,0 +1,205 @@
+-- The holds-test as one answer for a column, an operator's kind, literals and a value: what is read of a leaf and of a row, and the closed form.
+-- Assumes nothing.
+use Prim.Native.Nat.{ℕ, zero, suc}
+use native.Mathlib.Omega.{arith}
+use mathlib.Core.Bool.{Bool, true, false, not, _&&_, _||_, or-true, and-true}
+use mathlib.Core.List.{List, [], _∷_, map}
+use mathlib.Core.Logic.{_⊎_, inl, inr}
+use mathlib.Core.Path.{_≡_, refl, ap, ap₂, _∙_}
+use lib.IntN.{ℤ}
+use lib.ListN.{take}
+use borrow.Author.Tests.{eqb-true}
+use Rattle.values.specs.Outcomes.{Res, ok, err, errorNumber, need, each, _>>=_, _>>_, Row, missing, present}
+use Rattle.values.specs.Types.{Layout, number, bytes, layout}
+use Rattle.values.specs.Utf8.{utf8}
+use Rattle.values.specs.Words.{leNumber, signed}
+use Rattle.values.specs.declared.datatypes.PrimitiveType.{PrimitiveType}
+use Rattle.values.specs.declared.error.ErrorKind.the-variants.{Malformed, NotUtf8}
+use Rattle.values.specs.declared.error.ErrorKind.{ErrorKind}
+use Rattle.expr.specs.Holds.{Tests, numberTests, bytesTests, unaryHolds, holds}
+use Rattle.expr.specs.Operators.{Unary, Arity, none, one, many, arity, isNull, notNull, isNan, notNan}
+use Rattle.expr.specs.PredicateLaws.{arity-of}
+use Rattle.expr.specs.Predicates.{Predicate, unary, test, binary, set, operatorIn, literalsIn}
+use Rattle.sheet.specs.ReadAnswers.{contentAt, numberAt, LiteralAt}
+use Rattle.sheet.specs.PartLaws.{number-of-content}
+use Rattle.sheet.specs.Records.{lengthIn, recordAt, value}
+use Rattle.sheet.specs.RefusalLaws.{Only, OnlyMalformed, only-ok, only-bind, only-need, value-only, sheet-only}
+use Rattle.sheet.specs.Sheets.{Sheet, sheet, holdsLimit}
+use Rattle.sheet.specs.Values.{readNumber, isString, readBytes, eachLiteral, readRow}
+use Rattle.api.specs.HeldAnswers.{Placed, allUtf8, missingHeld, presentHeld, held, mapRow, rowUtf8, numberIn, numbersHeld, bytesHeld}
+use Rattle.api.specs.HeldAnswers.{heldOf, heldAs, heldCode}
+use Rattle.api.specs.HoldsTest.{byLayout, tested, testedSheet, holdsTest, heldNumber}
+
+-- ---- a predicate by its operator and its literals
+module _ {A : Type 0} (by : Tests A) where
+  unary-missing : (o : Unary) → unaryHolds {A = A} o missing ≡ unaryHolds {A = ℕ} o missing
+  unary-missing isNull = refl
+  unary-missing notNull = refl
+  unary-missing isNan = refl
+  unary-missing notNan = refl
+
+  holds-held : (p : Predicate A) (r : Row A) → holds by p r ≡ held by (arity (operatorIn p)) (literalsIn p) r
+  holds-held (unary o) missing = rw (arity-of (none o)) (unary-missing o)
+  holds-held (unary o) (present v) = rw (arity-of (none o))
+  holds-held (test (binary o l)) missing = rw (arity-of (one o))
+  holds-held (test (binary o l)) (present v) = rw (arity-of (one o))
+  holds-held (test (set o ls)) missing = rw (arity-of (many o))
+  holds-held (test (set o ls)) (present v) = rw (arity-of (many o))
+
+-- ---- reading that never refuses: numbers
+module _ {A B : Type 0} (f : A → B) where
+  each-read : (xs : List A) → each (λ x. ok (f x)) xs ≡ ok (map f xs)
+  each-read [] = refl
+  each-read (x ∷ xs) = rw (each-read xs)
+
+  literals-read : (leaf : Predicate A)
+      → (l : Predicate B) × (eachLiteral (λ x. ok (f x)) leaf ≡ ok l) × (operatorIn l ≡ operatorIn leaf) × (literalsIn l ≡ map f (literalsIn leaf))
+  literals-read (unary o) = (unary o, refl, refl, refl)
+  literals-read (test (binary o l)) = (test (binary o (f l)), refl, refl, refl)
+  literals-read (test (set o ls)) = (test (set o (map f ls)), rw (each-read ls), refl, refl)
+
+  row-read : (r : Row A) → readRow (λ x. ok (f x)) r ≡ ok (mapRow f r)
+  row-read missing = refl
+  row-read (present v) = refl
+
+number-literals : (n : ℕ) (leaf : Predicate (List ℕ))
+    → (l : Predicate ℤ) × (eachLiteral (readNumber n) leaf ≡ ok l) × (operatorIn l ≡ operatorIn leaf)
+    × (literalsIn l ≡ map (λ bs. signed n (leNumber bs)) (literalsIn leaf))
+number-literals n leaf = literals-read (λ bs. signed n (leNumber bs)) leaf
+
+number-row : (n : ℕ) (r : Row (List ℕ)) → readRow (readNumber n) r ≡ ok (mapRow (λ bs. signed n (leNumber bs)) r)
+number-row n r = row-read (λ bs. signed n (leNumber bs)) r
+
+-- ---- reading that refuses what fails a test: byte strings
+module _ {A : Type 0} (e : ErrorKind) where
+  then-ok : {B : Type 0} (a : Bool) (x : A) (f : A → B) → ((need a e >> ok x) >>= λ y. ok (f y)) ≡ (need a e >> ok (f x))
+  then-ok true x f = refl
+  then-ok false x f = refl
+
+  then-need : {B C : Type 0} (a b : Bool) (x : A) (y : B) (f : A → B → C)
+      → ((need a e >> ok x) >>= λ u. (need b e >> ok y) >>= λ v. ok (f u v)) ≡ (need a e >> (need b e >> ok (f x y)))
+  then-need true true x y f = refl
+  then-need true false x y f = refl
+  then-need false b x y f = refl
+
+-- s says whether UTF-8 is asked for
+both-asked : (s a b : Bool) {X : Type 0} (r : Res X)
+    → (need (not s || a) NotUtf8 >> (need (not s || b) NotUtf8 >> r)) ≡ (need (not s || (a && b)) NotUtf8 >> r)
+both-asked true true b r = refl
+both-asked true false b r = refl
+both-asked false a b r = refl
+
+module _ (s : Bool) where
+  abbrev asked : List ℕ → Res (List ℕ)
+  asked bs = do
+    need (not s || utf8 bs) NotUtf8
+    ok bs
+
+  each-asked : (ls : List (List ℕ)) → each asked ls ≡ (need (not s || allUtf8 ls) NotUtf8 >> ok ls)
+  each-asked [] = rw (or-true (not s))
+  each-asked (l ∷ ls) =
+      rw (each-asked ls) (then-need NotUtf8 (not s || utf8 l) (not s || allUtf8 ls) l ls _∷_) ∙ both-asked s (utf8 l) (allUtf8 ls) (ok (l ∷ ls))
+
+  literals-asked : (leaf : Predicate (List ℕ)) → eachLiteral asked leaf ≡ (need (not s || allUtf8 (literalsIn leaf)) NotUtf8 >> ok leaf)
+  literals-asked (unary o) = rw (or-true (not s))
+  literals-asked (test (binary o l)) = rw (and-true (utf8 l)) (then-ok NotUtf8 (not s || utf8 l) l (λ x. test (binary o x)))
+  literals-asked (test (set o ls)) = rw (each-asked ls) (then-ok NotUtf8 (not s || allUtf8 ls) ls (λ xs. test (set o xs)))
+
+  row-asked : (r : Row (List ℕ)) → readRow asked r ≡ (need (not s || rowUtf8 r) NotUtf8 >> ok r)
+  row-asked missing = rw (or-true (not s))
+  row-asked (present v) = then-ok NotUtf8 (not s || utf8 v) v present
+
+module _ (column : PrimitiveType) where
+  bytes-literals : (leaf : Predicate (List ℕ))
+      → eachLiteral (readBytes column) leaf ≡ (need (not (isString column) || allUtf8 (literalsIn leaf)) NotUtf8 >> ok leaf)
+  bytes-literals leaf = literals-asked (isString column) leaf
+
+  bytes-row : (r : Row (List ℕ)) → readRow (readBytes column) r ≡ (need (not (isString column) || rowUtf8 r) NotUtf8 >> ok r)
+  bytes-row r = row-asked (isString column) r
+
+-- ---- a sheet's leaf against a row
+module _ (leaf : Predicate (List ℕ)) (r : Row (List ℕ)) where
+  abbrev a : Arity
+  a = arity (operatorIn leaf)
+
+  abbrev ls : List (List ℕ)
+  ls = literalsIn leaf
+
+  numbers-tested : (n : ℕ) → tested numberTests (readNumber n) leaf r ≡ ok (numbersHeld (number n) a ls r)
+  numbers-tested n =
+      let q = number-literals n leaf in
+      rw (q .1, number-row n r) (ap ok (holds-held numberTests (q .0) (mapRow (numberIn (number n)) r) ∙ rw (q .2, q .3)))
+
+  bytes-tested : (column : PrimitiveType) → tested bytesTests (readBytes column) leaf r ≡ bytesHeld column a ls r
+  bytes-tested column =
+      rw (bytes-literals column leaf, bytes-row column r)
+      (then-need NotUtf8 (not (isString column) || allUtf8 ls) (not (isString column) || rowUtf8 r) leaf r (holds bytesTests)
+      ∙ rw (holds-held bytesTests leaf r))
+
+  same-layout : (column : PrimitiveType) (l : Layout)
+      → byLayout l (λ n. tested numberTests (readNumber n) leaf r) (tested bytesTests (readBytes column) leaf r)
+      ≡ byLayout l (λ n. ok (numbersHeld (number n) a ls r)) (bytesHeld column a ls r)
+  same-layout column (number n) = numbers-tested n
+  same-layout column (bytes n) = bytes-tested column
+
+pub tested-held : (x : Sheet) (r : Row (List ℕ)) → testedSheet x r ≡ heldOf (x .head .column) (arity (operatorIn (x .leaf))) (literalsIn (x .leaf)) r
+unfolding testedSheet heldOf
+tested-held x r = same-layout (x .leaf) r (x .head .column) (layout (x .head .column))
+
+-- ---- the answers
+
+-- what is refused is Malformed or not UTF-8
+abbrev Refusal : ErrorKind → Type 0
+Refusal e = (e ≡ Malformed) ⊎ (e ≡ NotUtf8)
+
+malformed : {A : Type 0} {r : Res A} → OnlyMalformed r → Only Refusal r
+malformed h = record { only = λ e d. inl (h .only e d) }
+
+held-only : (column : PrimitiveType) (a : Arity) (ls : List (List ℕ)) (r : Row (List ℕ)) → Only Refusal (heldOf column a ls r)
+unfolding heldOf
+held-only column a ls r = by (layout column)
+  where
+    by : (l : Layout) → Only Refusal (byLayout l (λ n. ok (numbersHeld (number n) a ls r)) (bytesHeld column a ls r))
+    by (number n) = only-ok
+    by (bytes n) =
+        only-need (not (isString column) || allUtf8 ls) NotUtf8 _ (inr refl) (only-need (not (isString column) || rowUtf8 r) NotUtf8 _ (inr refl) only-ok)
+
+test-only : (s v : List ℕ) → Only Refusal (holdsTest s v)
+unfolding holdsTest
+test-only s v =
+    only-bind (sheet holdsLimit s) _ (malformed (sheet-only holdsLimit s)) (λ x.
+    only-bind (value (layout (x .head .column)) v) (testedSheet x) (malformed (value-only (layout (x .head .column)) v)) (λ row.
+    rw (tested-held x row) (held-only (x .head .column) (arity (operatorIn (x .leaf))) (literalsIn (x .leaf)) row)))
+
+-- 01: "gives only 0, 1, 3, 4"
+pub answers : (s v : List ℕ) → let n = heldNumber (holdsTest s v) in (n ≡ 0) ⊎ ((n ≡ 1) ⊎ ((n ≡ 3) ⊎ (n ≡ 4)))
+answers s v = go (holdsTest s v) (test-only s v)
+  where
+    refusal : {e : ErrorKind} → Refusal e → (errorNumber e ≡ 3) ⊎ (errorNumber e ≡ 4)
+    refusal (inl is) = inl (ap errorNumber is)
+    refusal (inr is) = inr (ap errorNumber is)
+
+    go : (r : Res Bool) → Only Refusal r → (heldNumber r ≡ 0) ⊎ ((heldNumber r ≡ 1) ⊎ ((heldNumber r ≡ 3) ⊎ (heldNumber r ≡ 4)))
+    go (ok true) h = inl refl
+    go (ok false) h = inr (inl refl)
+    go (err e) h = inr (inr (refusal (h .only e refl)))
+
+-- the number that the code gives of its answer
+pub held-number : (r : Res Bool) → heldCode (heldAs r) ≡ heldNumber r
+held-number (ok true) = refl
+held-number (ok false) = refl
+held-number (err e) = refl
+
+-- ---- a literal's number is that of its content
+content-number : (l : Layout) (s : List ℕ) (k : ℕ) → LiteralAt l s k → numberAt l s k ≡ numberIn l (contentAt s k)
+content-number (number n) s k at = number-of-content n s k (eqb-true (lengthIn (recordAt s k)) n (at .fitting))
+content-number (bytes n) s k at = refl
+
+pub placed-numbers : (l : Layout) (s ns : List ℕ) (count : ℕ) → Placed l s ns count
+    → map (numberAt l s) (take count ns) ≡ map (numberIn l) (map (contentAt s) (take count ns))
+placed-numbers l s ns zero placed = refl
+placed-numbers l s [] (suc count) placed = refl
+placed-numbers l s (k ∷ ns) (suc count) placed =
+    ap₂ _∷_
+    (content-number l s k (placed .each 0 (omega arith)))
+    (placed-numbers l s ns count (record { room = omega (arith, placed .room); each = λ i h. placed .each (suc i) (omega arith) }))

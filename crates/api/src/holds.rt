@@ -1,0 +1,328 @@
+// The holds-test: whether a value meets a sheet's leaf.
+use expr::operator::PredicateOperator;
+use expr::test::bytes_meets;
+use expr::test::number_meets;
+use sheet::literal::content_of;
+use sheet::literal::number_of;
+use sheet::sheet::HOLDS_LIMIT;
+use sheet::sheet::SheetResult;
+use sheet::sheet::read_sheet;
+use sheet::value::ValueResult;
+use sheet::value::read_value;
+use values::datatypes::PrimitiveType;
+use values::error::ErrorKind;
+use values::order::Ordering;
+use values::order::compare_bytes;
+use values::utf8::is_utf8;
+use values::words::i32_at;
+use values::words::i64_at;
+ghost use mathlib.Core.Path.{_≡_};
+ghost use mathlib.Core.Bool.{true};
+ghost use mathlib.Core.List.{map};
+ghost use mathlib.Core.Logic.{_⊎_};
+ghost use Prim.Native.Nat.{_≤_};
+ghost use lib.ListN.{length, take};
+ghost use Rattle.values.specs.Ascending.{elem};
+ghost use Rattle.values.specs.Order.{compareNumbers, compareBytes};
+ghost use Rattle.values.specs.Outcomes.{ok};
+ghost use Rattle.values.specs.Types.{layout, fits};
+ghost use Rattle.values.specs.Words.{leNumber, signed};
+ghost use Rattle.values.specs.declared.datatypes.PrimitiveType.the-variants.{String};
+ghost use Rattle.expr.specs.Operators.{arity};
+ghost use Rattle.expr.specs.Holds.{numberTests, bytesTests};
+ghost use Rattle.sheet.specs.ReadAnswers.{contentAt, numberAt};
+ghost use Rattle.api.specs.HoldsTest.{holdsTest};
+ghost use Rattle.api.specs.HeldAnswers.{Placed, allUtf8, missingHeld, presentHeld, held, row, rowUtf8, NumberType, numbersHeld, bytesHeld};
+ghost use Rattle.api.specs.HeldAnswers.{heldOf, valueHeld, heldAs, heldCode};
+
+// Whether a value meets a leaf, or why that is not said.
+pub enum Held {
+    Yes,
+    No,
+    Err(ErrorKind),
+}
+
+impl Held {
+    // Document 01's number of the answer.
+    pub fn number(self) -> u32
+        ensures { λ r. ⌜ r ≡ heldCode self ⌝ }
+    {
+        match self {
+            Held::Yes => 0,
+            Held::No => 1,
+            Held::Err(e) => e.number(),
+        }
+    }
+}
+
+// Whether a number equals one of the literals in the records that the first count numbers name.
+fn number_among(s: &[u8], numbers: &[u16], count: usize, column: PrimitiveType, v: i64) -> bool
+    requires { ⌜ Placed (layout column) (now s) (now numbers) count ⌝ }
+    ensures { λ r. ⌜ r ≡ elem compareNumbers v (map (numberAt (layout column) (now (s .entry))) (take count (now (numbers .entry)))) ⌝ }
+{
+    let mut i = 0;
+    while i < count {
+        let k = numbers[i] as usize;
+        if number_of(s, k, column) == v {
+            return true;
+        }
+        i += 1;
+    }
+    false
+}
+
+// The same for a byte string.
+fn bytes_among(s: &[u8], numbers: &[u16], count: usize, column: PrimitiveType, v: &[u8]) -> bool
+    requires { ⌜ Placed (layout column) (now s) (now numbers) count ⌝ }
+    ensures { λ r. ⌜ r ≡ elem compareBytes (now (v .entry)) (map (contentAt (now (s .entry))) (take count (now (numbers .entry)))) ⌝ }
+{
+    let mut i = 0;
+    while i < count {
+        let k = numbers[i] as usize;
+        if let Ordering::Equal = compare_bytes(v, content_of(s, k)) {
+            return true;
+        }
+        i += 1;
+    }
+    false
+}
+
+// Whether all those literals are UTF-8.
+fn literals_utf8(s: &[u8], numbers: &[u16], count: usize, column: PrimitiveType) -> bool
+    requires { ⌜ Placed (layout column) (now s) (now numbers) count ⌝ }
+    ensures { λ r. ⌜ r ≡ allUtf8 (map (contentAt (now (s .entry))) (take count (now (numbers .entry)))) ⌝ }
+{
+    let mut i = 0;
+    while i < count {
+        let k = numbers[i] as usize;
+        if !is_utf8(content_of(s, k)) {
+            return false;
+        }
+        i += 1;
+    }
+    true
+}
+
+// Whether a missing value meets an operator, whatever its literals.
+fn missing_holds(operator: PredicateOperator) -> bool
+    ensures { λ r. ⌜ r ≡ missingHeld (arity operator) ⌝ }
+{
+    if let PredicateOperator::IsNull = operator {
+        true
+    } else {
+        false
+    }
+}
+
+// Whether a present number meets an operator with those literals.
+fn number_holds(
+    s: &[u8],
+    numbers: &[u16],
+    count: usize,
+    operator: PredicateOperator,
+    column: PrimitiveType,
+    v: i64,
+) -> bool
+    requires { ⌜ Placed (layout column) (now s) (now numbers) count ⌝ }
+    ensures { λ r. ⌜ r ≡ presentHeld numberTests (arity operator) (map (numberAt (layout column) (now (s .entry))) (take count (now (numbers .entry)))) v ⌝ }
+{
+    match operator {
+        PredicateOperator::IsNull => false,
+        PredicateOperator::NotNull => true,
+        PredicateOperator::IsNan => false,
+        PredicateOperator::NotNan => true,
+        PredicateOperator::In => number_among(s, numbers, count, column, v),
+        PredicateOperator::NotIn => !number_among(s, numbers, count, column, v),
+        _ => {
+            if count == 0 {
+                return false;
+            }
+            let k = numbers[0] as usize;
+            number_meets(operator, v, number_of(s, k, column))
+        }
+    }
+}
+
+// Whether a present byte string meets an operator with those literals.
+fn bytes_holds(
+    s: &[u8],
+    numbers: &[u16],
+    count: usize,
+    operator: PredicateOperator,
+    column: PrimitiveType,
+    v: &[u8],
+) -> bool
+    requires { ⌜ Placed (layout column) (now s) (now numbers) count ⌝ }
+    ensures { λ r. ⌜ r ≡ presentHeld bytesTests (arity operator) (map (contentAt (now (s .entry))) (take count (now (numbers .entry)))) (now (v .entry)) ⌝ }
+{
+    match operator {
+        PredicateOperator::IsNull => false,
+        PredicateOperator::NotNull => true,
+        PredicateOperator::IsNan => false,
+        PredicateOperator::NotNan => true,
+        PredicateOperator::In => bytes_among(s, numbers, count, column, v),
+        PredicateOperator::NotIn => !bytes_among(s, numbers, count, column, v),
+        _ => {
+            if count == 0 {
+                return false;
+            }
+            let k = numbers[0] as usize;
+            bytes_meets(operator, v, content_of(s, k))
+        }
+    }
+}
+
+// The number that a value's bytes are.
+fn number_in(value: &[u8]) -> i64
+    requires { ⌜ (length (now value) ≡ 4) ⊎ (length (now value) ≡ 8) ⌝ }
+    ensures { λ r. ⌜ r ≡ signed (length (now (value .entry))) (leNumber (now (value .entry))) ⌝ }
+{
+    if value.len() == 4 {
+        i32_at(value, 0) as i64
+    } else {
+        i64_at(value, 0)
+    }
+}
+
+// A test that was made, as the answer.
+fn answered(yes: bool) -> Held
+    ensures { λ r. ⌜ r ≡ heldAs (ok yes) ⌝ }
+{
+    if yes { Held::Yes } else { Held::No }
+}
+
+// Whether a number, which may be missing, meets an operator with those literals.
+fn test_number(
+    s: &[u8],
+    numbers: &[u16],
+    count: usize,
+    operator: PredicateOperator,
+    column: PrimitiveType,
+    present: bool,
+    value: &[u8],
+) -> Held
+    requires { ⌜ Placed (layout column) (now s) (now numbers) count ⌝ }
+    requires { ⌜ (present ≡ true → NumberType column (length (now value))) ⌝ }
+    ensures { λ r. ⌜ r ≡ heldAs (ok (numbersHeld (layout column) (arity operator) (map (contentAt (now (s .entry))) (take count (now (numbers .entry)))) (row present (now (value .entry))))) ⌝ }
+{
+    if present {
+        answered(number_holds(s, numbers, count, operator, column, number_in(value)))
+    } else {
+        answered(missing_holds(operator))
+    }
+}
+
+// The same for a byte string.
+fn test_bytes(
+    s: &[u8],
+    numbers: &[u16],
+    count: usize,
+    operator: PredicateOperator,
+    column: PrimitiveType,
+    present: bool,
+    value: &[u8],
+) -> Held
+    requires { ⌜ Placed (layout column) (now s) (now numbers) count ⌝ }
+    ensures { λ r. ⌜ r ≡ heldAs (ok (held bytesTests (arity operator) (map (contentAt (now (s .entry))) (take count (now (numbers .entry)))) (row present (now (value .entry))))) ⌝ }
+{
+    if present {
+        answered(bytes_holds(s, numbers, count, operator, column, value))
+    } else {
+        answered(missing_holds(operator))
+    }
+}
+
+// Whether a value is UTF-8, where it is present.
+fn value_utf8(present: bool, value: &[u8]) -> bool
+    ensures { λ r. ⌜ r ≡ rowUtf8 (row present (now (value .entry))) ⌝ }
+{
+    if present { is_utf8(value) } else { true }
+}
+
+// The same for a String, whose literals are to be UTF-8, and then its value.
+fn test_string(
+    s: &[u8],
+    numbers: &[u16],
+    count: usize,
+    operator: PredicateOperator,
+    column: PrimitiveType,
+    present: bool,
+    value: &[u8],
+) -> Held
+    requires { ⌜ Placed (layout column) (now s) (now numbers) count ⌝ }
+    ensures { λ r. ⌜ r ≡ heldAs (bytesHeld String (arity operator) (map (contentAt (now (s .entry))) (take count (now (numbers .entry)))) (row present (now (value .entry)))) ⌝ }
+{
+    if !literals_utf8(s, numbers, count, column) {
+        return Held::Err(ErrorKind::NotUtf8);
+    }
+    if !value_utf8(present, value) {
+        return Held::Err(ErrorKind::NotUtf8);
+    }
+    test_bytes(s, numbers, count, operator, column, present, value)
+}
+
+// Whether a value of the column's type, which may be missing, meets an operator with those literals.
+fn test_row(
+    s: &[u8],
+    numbers: &[u16],
+    count: usize,
+    operator: PredicateOperator,
+    column: PrimitiveType,
+    present: bool,
+    value: &[u8],
+) -> Held
+    requires { ⌜ Placed (layout column) (now s) (now numbers) count ⌝ }
+    requires { ⌜ (present ≡ true → fits (layout column) (length (now value)) ≡ true) ⌝ }
+    ensures { λ r. ⌜ r ≡ heldAs (heldOf column (arity operator) (map (contentAt (now (s .entry))) (take count (now (numbers .entry)))) (row present (now (value .entry)))) ⌝ }
+{
+    match column {
+        PrimitiveType::String => test_string(s, numbers, count, operator, column, present, value),
+        PrimitiveType::Binary => test_bytes(s, numbers, count, operator, column, present, value),
+        _ => test_number(s, numbers, count, operator, column, present, value),
+    }
+}
+
+// The same for the value in a record.
+fn test_value(
+    s: &[u8],
+    numbers: &[u16],
+    count: usize,
+    operator: PredicateOperator,
+    column: PrimitiveType,
+    value: &[u8],
+) -> Held
+    requires { ⌜ Placed (layout column) (now s) (now numbers) count ⌝ }
+    ensures { λ r. ⌜ r ≡ heldAs (valueHeld column (arity operator) (map (contentAt (now (s .entry))) (take count (now (numbers .entry)))) (now (value .entry))) ⌝ }
+{
+    match read_value(value, column) {
+        ValueResult::Missing => test_row(s, numbers, count, operator, column, false, value),
+        ValueResult::Present(_) => {
+            test_row(
+                s,
+                numbers,
+                count,
+                operator,
+                column,
+                true,
+                content_of(value, 0),
+            )
+        }
+        ValueResult::Err(e) => Held::Err(e),
+    }
+}
+
+// Whether a value meets a sheet's leaf.
+pub fn holds(sheet: &[u8], value: &[u8]) -> Held
+    ensures { λ r. ⌜ r ≡ heldAs (holdsTest (now (sheet .entry)) (now (value .entry))) ⌝ }
+{
+    let mut numbers = [0; HOLDS_LIMIT];
+    match read_sheet(sheet, HOLDS_LIMIT, &mut numbers) {
+        SheetResult::Ok(read) => {
+            let head = read.head;
+            let operator = head.operator;
+            let column = head.column;
+            test_value(sheet, &numbers, read.count, operator, column, value)
+        }
+        SheetResult::Err(e) => Held::Err(e),
+    }
+}

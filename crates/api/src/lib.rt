@@ -1,0 +1,2 @@
+// The routines over bytes.
+pub mod holds;
