@@ -13,7 +13,7 @@ use Rattle.values.specs.Words.{leNumber, signed}
 use Rattle.values.specs.declared.datatypes.PrimitiveType.{PrimitiveType}
 use Rattle.values.specs.declared.error.ErrorKind.the-variants.{NotUtf8}
 use Rattle.expr.specs.Operators.{Arity, none, one, many}
-use Rattle.expr.specs.Holds.{Tests, numberTests, bytesTests, unaryHolds, binaryMeets, setMeets}
+use Rattle.expr.specs.Holds.{Tests, numberTests, bytesTests, missingMeets, unaryMeets, binaryMeets, setMeets}
 use Rattle.sheet.specs.ReadAnswers.{LiteralAt}
 use Rattle.sheet.specs.Records.{value}
 use Rattle.sheet.specs.Values.{isString}
@@ -31,19 +31,14 @@ allUtf8 [] = true
 allUtf8 (s ∷ ss) = utf8 s && allUtf8 ss
 
 -- a value against an operator's kind and literals, which for the other kinds are passed over
-abbrev pub missingHeld : Arity → Bool
-missingHeld (none o) = unaryHolds {A = ℕ} o missing
-missingHeld (one o) = false
-missingHeld (many o) = false
-
 abbrev pub presentHeld : {A : Type 0} → Tests A → Arity → List A → A → Bool
-presentHeld by (none o) ls v = unaryHolds o (present v)
+presentHeld by (none o) ls v = unaryMeets o
 presentHeld by (one o) [] v = false
 presentHeld by (one o) (l ∷ ls) v = binaryMeets by o v l
 presentHeld by (many o) ls v = setMeets by o v ls
 
 abbrev pub held : {A : Type 0} → Tests A → Arity → List A → Row A → Bool
-held by a ls missing = missingHeld a
+held by a ls missing = missingMeets a
 held by a ls (present v) = presentHeld by a ls v
 
 -- ---- a row's value and the literals, as contents of records

@@ -16,34 +16,26 @@ use Rattle.values.specs.Words.{leNumber, signed}
 use Rattle.values.specs.declared.datatypes.PrimitiveType.{PrimitiveType}
 use Rattle.values.specs.declared.error.ErrorKind.the-variants.{Malformed, NotUtf8}
 use Rattle.values.specs.declared.error.ErrorKind.{ErrorKind}
-use Rattle.expr.specs.Holds.{Tests, numberTests, bytesTests, unaryHolds, holds}
-use Rattle.expr.specs.Operators.{Unary, Arity, none, one, many, arity, isNull, notNull, isNan, notNan}
+use Rattle.expr.specs.Holds.{Tests, numberTests, bytesTests, holds}
+use Rattle.expr.specs.Operators.{Arity, none, one, many, arity}
 use Rattle.expr.specs.PredicateLaws.{arity-of}
-use Rattle.expr.specs.Predicates.{Predicate, unary, test, binary, set, operatorIn, literalsIn}
+use Rattle.expr.specs.Predicates.{Predicate, unary, test, binary, set, arityIn, operatorIn, literalsIn}
 use Rattle.sheet.specs.ReadAnswers.{contentAt, numberAt, LiteralAt}
 use Rattle.sheet.specs.PartLaws.{number-of-content}
 use Rattle.sheet.specs.Records.{lengthIn, recordAt, value}
 use Rattle.sheet.specs.RefusalLaws.{Only, OnlyMalformed, only-ok, only-bind, only-need, value-only, sheet-only}
 use Rattle.sheet.specs.Sheets.{Sheet, sheet, holdsLimit}
 use Rattle.sheet.specs.Values.{readNumber, isString, readBytes, eachLiteral, readRow}
-use Rattle.api.specs.HeldAnswers.{Placed, allUtf8, missingHeld, presentHeld, held, mapRow, rowUtf8, numberIn, numbersHeld, bytesHeld}
+use Rattle.api.specs.HeldAnswers.{Placed, allUtf8, held, mapRow, rowUtf8, numberIn, numbersHeld, bytesHeld}
 use Rattle.api.specs.HeldAnswers.{heldOf, heldAs, heldCode}
 use Rattle.api.specs.HoldsTest.{byLayout, tested, testedSheet, holdsTest, heldNumber}
 
 -- ---- a predicate by its operator and its literals
 module _ {A : Type 0} (by : Tests A) where
-  unary-missing : (o : Unary) → unaryHolds {A = A} o missing ≡ unaryHolds {A = ℕ} o missing
-  unary-missing isNull = refl
-  unary-missing notNull = refl
-  unary-missing isNan = refl
-  unary-missing notNan = refl
-
   holds-held : (p : Predicate A) (r : Row A) → holds by p r ≡ held by (arity (operatorIn p)) (literalsIn p) r
-  holds-held (unary o) missing = rw (arity-of (none o)) (unary-missing o)
+  holds-held p missing = rw (arity-of (arityIn p))
   holds-held (unary o) (present v) = rw (arity-of (none o))
-  holds-held (test (binary o l)) missing = rw (arity-of (one o))
   holds-held (test (binary o l)) (present v) = rw (arity-of (one o))
-  holds-held (test (set o ls)) missing = rw (arity-of (many o))
   holds-held (test (set o ls)) (present v) = rw (arity-of (many o))
 
 -- ---- reading that never refuses: numbers

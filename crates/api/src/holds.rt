@@ -29,10 +29,10 @@ ghost use Rattle.values.specs.Types.{layout, fits};
 ghost use Rattle.values.specs.Words.{leNumber, signed};
 ghost use Rattle.values.specs.declared.datatypes.PrimitiveType.the-variants.{String};
 ghost use Rattle.expr.specs.Operators.{arity};
-ghost use Rattle.expr.specs.Holds.{numberTests, bytesTests};
+ghost use Rattle.expr.specs.Holds.{numberTests, bytesTests, missingMeets};
 ghost use Rattle.sheet.specs.ReadAnswers.{contentAt, numberAt};
 ghost use Rattle.api.specs.HoldsTest.{holdsTest};
-ghost use Rattle.api.specs.HeldAnswers.{Placed, allUtf8, missingHeld, presentHeld, held, row, rowUtf8, NumberType, numbersHeld, bytesHeld};
+ghost use Rattle.api.specs.HeldAnswers.{Placed, allUtf8, presentHeld, held, row, rowUtf8, NumberType, numbersHeld, bytesHeld};
 ghost use Rattle.api.specs.HeldAnswers.{heldOf, valueHeld, heldAs, heldCode};
 
 // Whether a value meets a leaf, or why that is not said.
@@ -105,7 +105,7 @@ fn literals_utf8(s: &[u8], numbers: &[u16], count: usize, column: PrimitiveType)
 
 // Whether a missing value meets an operator, whatever its literals.
 fn missing_holds(operator: PredicateOperator) -> bool
-    ensures { λ r. ⌜ r ≡ missingHeld (arity operator) ⌝ }
+    ensures { λ r. ⌜ r ≡ missingMeets (arity operator) ⌝ }
 {
     if let PredicateOperator::IsNull = operator {
         true

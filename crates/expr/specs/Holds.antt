@@ -10,7 +10,7 @@ use Rattle.values.specs.Order.{compareNumbers, compareBytes, startsWith, isLess
 use Rattle.values.specs.Ascending.{elem}
 use Rattle.values.specs.declared.order.Ordering.{Ordering}
 use Rattle.expr.specs.Operators as operators
-use Rattle.expr.specs.Predicates.{Test, binary, set, Predicate, unary, test}
+use Rattle.expr.specs.Predicates.{Test, binary, set, Predicate, unary, test, arityIn}
 
 -- how values of a kind are tested: `begins v l` says that v begins with l
 pub record Tests (A : Type 0) : Type 0 where
@@ -25,20 +25,21 @@ numberTests = record { compare = compareNumbers; begins = λ v l. false }
 abbrev pub bytesTests : Tests (List ℕ)
 bytesTests = record { compare = compareBytes; begins = startsWith }
 
--- 01: "NotNull of every present value"; "IsNan holds of nothing, NotNan of every present value"; "A missing value meets IsNull only"
-abbrev pub unaryHolds : {A : Type 0} → operators.Unary → Row A → Bool
-unaryHolds operators.isNull missing = true
-unaryHolds operators.isNull (present v) = false
-unaryHolds operators.notNull missing = false
-unaryHolds operators.notNull (present v) = true
-unaryHolds operators.isNan missing = false
-unaryHolds operators.isNan (present v) = false
-unaryHolds operators.notNan missing = false
-unaryHolds operators.notNan (present v) = true
+-- 01: "A missing value meets IsNull only"
+abbrev pub missingMeets : operators.Arity → Bool
+missingMeets (operators.none operators.isNull) = true
+missingMeets (operators.none operators.notNull) = false
+missingMeets (operators.none operators.isNan) = false
+missingMeets (operators.none operators.notNan) = false
+missingMeets (operators.one o) = false
+missingMeets (operators.many o) = false
 
--- whether a missing value meets a test
-abbrev pub missingMeets : {A : Type 0} → Test A → Bool
-missingMeets t = false
+-- of a present value, 01: "NotNull of every present value"; "IsNan holds of nothing, NotNan of every present value"
+abbrev pub unaryMeets : operators.Unary → Bool
+unaryMeets operators.isNull = false
+unaryMeets operators.notNull = true
+unaryMeets operators.isNan = false
+unaryMeets operators.notNan = true
 
 module _ {A : Type 0} (by : Tests A) where
   -- 01: "201 to 206 compare a present value with L"
@@ -61,10 +62,13 @@ module _ {A : Type 0} (by : Tests A) where
   meets (binary o l) v = binaryMeets o v l
   meets (set o ls) v = setMeets o v ls
 
+  abbrev pub presentMeets : Predicate A → A → Bool
+  presentMeets (unary o) v = unaryMeets o
+  presentMeets (test t) v = meets t v
+
   abbrev pub holds : Predicate A → Row A → Bool
-  holds (unary o) row = unaryHolds o row
-  holds (test t) missing = missingMeets t
-  holds (test t) (present v) = meets t v
+  holds p missing = missingMeets (arityIn p)
+  holds p (present v) = presentMeets p v
 
 -- a missing number does not meet NotEq 5
 missing-not-equal : holds numberTests (test (binary operators.notEqual (pos 5))) missing ≡ false

@@ -7,7 +7,7 @@ use Rattle.values.specs.AscendingLaws.{elem-ascending}
 use Rattle.values.specs.Outcomes.{present}
 use Rattle.values.specs.TestLaws.{not-not}
 use Rattle.values.specs.declared.order.Ordering.the-variants.{Equal}
-use Rattle.expr.specs.Holds.{Tests, unaryHolds, setMeets, meets}
+use Rattle.expr.specs.Holds.{Tests, setMeets, meets}
 use Rattle.expr.specs.Operators as operators
 use Rattle.expr.specs.Operators.{negated}
 use Rattle.expr.specs.Predicates.{Test, binary, set, test, operatorIn}
@@ -85,10 +85,3 @@ module _ {A : Type 0} (by : Tests A) where
   pub meets-ascending : ((a b : A) → by .compare a b ≡ Equal → a ≡ b) → (o : operators.SetOperator) (ls : List A) (v : A)
       → meets by (set o (ascending (by .compare) ls)) v ≡ meets by (set o ls) v
   meets-ascending equal o ls v = set-members o v (ascending (by .compare) ls) ls (elem-ascending (by .compare) equal v ls)
-
--- ---- no literal: one present value is as good as another, of whatever kind
-pub unary-present : {A B : Type 0} (o : operators.Unary) (v : A) (w : B) → unaryHolds o (present v) ≡ unaryHolds o (present w)
-unary-present operators.isNull v w = refl
-unary-present operators.notNull v w = refl
-unary-present operators.isNan v w = refl
-unary-present operators.notNan v w = refl

@@ -14,10 +14,13 @@ pub data Predicate (A : Type 0) : Type 0 where
   unary : Unary → Predicate A
   test : Test A → Predicate A
 
+abbrev pub arityIn : {A : Type 0} → Predicate A → Arity
+arityIn (unary o) = none o
+arityIn (test (binary o l)) = one o
+arityIn (test (set o ls)) = many o
+
 abbrev pub operatorIn : {A : Type 0} → Predicate A → PredicateOperator
-operatorIn (unary o) = operatorOf (none o)
-operatorIn (test (binary o l)) = operatorOf (one o)
-operatorIn (test (set o ls)) = operatorOf (many o)
+operatorIn p = operatorOf (arityIn p)
 
 abbrev pub literalsIn : {A : Type 0} → Predicate A → List A
 literalsIn (unary o) = []

@@ -6,12 +6,12 @@ use mathlib.Core.Path.{refl}
 use Rattle.expr.specs.Operators.{arity}
 use Rattle.expr.specs.declared.operator.PredicateOperator.the-variants.{IsNull}
 use Rattle.expr.proofs.Arms.{but, agree}
-use Rattle.api.specs.HeldAnswers.{missingHeld}
+use Rattle.expr.specs.Holds.{missingMeets}
 use Rattle.api.proofs.holds.missing_holds.Statement.{statement}
 use Rattle.api.proofs.holds.missing_holds.Tie as tie
 
 returns-2 : tie.Need-returns-2
-returns-2 c = agree (λ o. false) (λ o. missingHeld (arity o)) (but (IsNull ∷ [])) (c .before .args .operator) (c .match .keys2) refl
+returns-2 c = agree (λ o. false) (λ o. missingMeets (arity o)) (but (IsNull ∷ [])) (c .before .args .operator) (c .match .keys2) refl
 
 pub missing-holds-spec : {M : Type 1} → statement M
 missing-holds-spec = tie.close (tie.spec (search needs) (λ c. search needs) returns-2)
