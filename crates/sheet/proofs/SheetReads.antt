@@ -18,7 +18,8 @@ use Rattle.sheet.specs.ReadAnswers.{takes, contentAt, walkedAs, Stored, 
 use Rattle.sheet.specs.Records.{recordSize}
 use Rattle.sheet.specs.StepLaws.{withChain, sheet-steps, Made, predicate-made, predicate-refused}
 use Rattle.sheet.specs.Sheets.{Sheet, sheet}
-use Rattle.sheet.specs.WalkLaws.{numbersFrom, OnlyMalformed, walk-malformed, literals-above, literal-at}
+use Rattle.sheet.specs.RefusalLaws.{OnlyMalformed}
+use Rattle.sheet.specs.WalkLaws.{numbersFrom, walk-malformed, literals-above, literal-at}
 use Rattle.sheet.specs.declared.chain.Walked.{Walked}
 use Rattle.sheet.specs.declared.chain.Walked.the-variants as walked
 use Rattle.sheet.specs.declared.head.Head.{Head}

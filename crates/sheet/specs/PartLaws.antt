@@ -8,14 +8,13 @@ use mathlib.Core.Path.{_≡_, refl, sym, ap, _∙_}
 use lib.Dec.{eqb, lit<, lit≤}
 use lib.ListN.{length, take, drop, length-drop}
 use lib.Seq.{take-all, take-nil, take-take, drop-drop, length-take-le}
-use borrow.Author.Tests.{eqb-true, leb-true, eq-eqb, ne-eqb}
+use borrow.Author.Tests.{eq-eqb, ne-eqb}
 use Rattle.values.specs.Outcomes.{ok, need, _>>_, present}
 use Rattle.values.specs.TestLaws.{and-both}
 use Rattle.values.specs.Types.{Layout, number, layout, contentSize, fits}
 use Rattle.values.specs.WordLaws.{word-split}
 use Rattle.values.specs.Words.{leNumber, field, word, zeroAt, signed}
 use Rattle.values.specs.declared.datatypes.PrimitiveType.{PrimitiveType}
-use Rattle.values.specs.declared.datatypes.PrimitiveType.the-variants.{Int, Long, Date, Time, Timestamp, Timestamptz, TimestampNs, TimestamptzNs, String, Binary}
 use Rattle.values.specs.declared.error.ErrorKind.the-variants.{Malformed}
 use Rattle.sheet.specs.ReadAnswers.{isOk, contentAt, numberAt}
 use Rattle.sheet.specs.RecordLaws.{fits-room, content-read, value-read}

@@ -1,10 +1,10 @@
 -- Records: how literals and values stand in bytes. A value is here still the bytes of its content. Assumes nothing.
 use Prim.Native.Nat.{ℕ, zero, suc, _+_, _-_, _*_}
-use mathlib.Core.Bool.{Bool, true, false, cond}
+use mathlib.Core.Bool.{cond}
 use mathlib.Core.List.{List, [], _∷_}
 use lib.Dec.{eqb}
 use lib.ListN.{length, take, drop}
-use Rattle.values.specs.Outcomes.{Res, ok, err, need, _>>=_, _>>_, Row, missing, present}
+use Rattle.values.specs.Outcomes.{Res, ok, need, _>>=_, _>>_, Row, missing, present}
 use Rattle.values.specs.Types.{Layout, contentSize, fits}
 use Rattle.values.specs.Words.{field, word, zeroAt}
 use Rattle.values.specs.declared.error.ErrorKind.the-variants.{Malformed}

@@ -49,7 +49,7 @@ module _ {p : ErrorKind → Type 0} where
 abbrev pub OnlyMalformed : {A : Type 0} → Res A → Type 0
 OnlyMalformed r = Only (λ (e : ErrorKind). e ≡ Malformed) r
 
-must : {B : Type 0} (b : Bool) (r : Res B) → OnlyMalformed r → OnlyMalformed (need b Malformed >> r)
+pub must : {B : Type 0} (b : Bool) (r : Res B) → OnlyMalformed r → OnlyMalformed (need b Malformed >> r)
 must b r h = only-need b Malformed r refl h
 
 pub content-only : (l : Layout) (r : List ℕ) → OnlyMalformed (content l r)
@@ -79,7 +79,7 @@ head-only type transform width =
     only-bind (find types type) _ (find-only types type) (λ t.
     only-bind (transformOf transform width) _ (transform-only transform width) (λ f. only-ok))
 
-chain-only : (rs : List (List ℕ)) (k n : ℕ) → OnlyMalformed (chain k n rs)
+pub chain-only : (rs : List (List ℕ)) (k n : ℕ) → OnlyMalformed (chain k n rs)
 chain-only [] k n = must (eqb n 0) (ok []) only-ok
 chain-only (r ∷ rs) k n =
     let on = only-bind (chain (suc k) (nextIn r) rs) (λ (ps : List (List ℕ)). ok (r ∷ ps)) (chain-only rs (suc k) (nextIn r)) (λ ps. only-ok) in

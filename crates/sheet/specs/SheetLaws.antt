@@ -11,7 +11,7 @@ use borrow.Author.Tests.{ltb-true, leb-true, eqb-true, le-leb}
 use Rattle.values.specs.AscendingLaws.{AllOf}
 use Rattle.values.specs.Numbered.{find}
 use Rattle.values.specs.Outcomes.{Res, ok, each, _>>=_}
-use Rattle.values.specs.OutcomeLaws.{ok-inj, ok-not-err, passing, passed, gone, each-cons, each-length}
+use Rattle.values.specs.OutcomeLaws.{ok-inj, passing, passed, gone, each-cons, each-length}
 use Rattle.values.specs.Types.{layout, fits}
 use Rattle.values.specs.Words.{word, zeroAt}
 use Rattle.values.specs.WordLaws.{AllBytes}

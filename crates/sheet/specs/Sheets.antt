@@ -1,10 +1,10 @@
 -- Sheets: a leaf over one column, with the transform that splits the table, as bytes. One rule of document 01 a line; what fails one is 3. Assumes nothing.
 use Prim.Native.Nat.{ℕ, zero, suc, _+_, _-_, _*_, _/_, _%_}
-use mathlib.Core.Bool.{Bool, true, false, cond}
+use mathlib.Core.Bool.{cond}
 use mathlib.Core.List.{List, [], _∷_}
 use lib.Dec.{ltb, leb, eqb}
-use lib.ListN.{length, take, drop}
-use Rattle.values.specs.Outcomes.{Res, ok, err, need, each, _>>=_, _>>_}
+use lib.ListN.{length, drop}
+use Rattle.values.specs.Outcomes.{Res, ok, need, each, _>>=_, _>>_}
 use Rattle.values.specs.Numbered.{find}
 use Rattle.values.specs.Types.{types, layout}
 use Rattle.values.specs.Transforms.{transformOf}

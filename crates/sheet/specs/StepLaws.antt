@@ -17,7 +17,6 @@ use Rattle.expr.specs.Operators.{Arity, none, one, many, arity, operators, oper
 use Rattle.expr.specs.PredicateLaws.{operator-of}
 use Rattle.expr.specs.Predicates.{Predicate, unary, test, binary, set, operatorIn, literalsIn, withLiterals, predicate}
 use Rattle.expr.specs.declared.operator.PredicateOperator.{PredicateOperator}
-use Rattle.expr.specs.declared.operator.PredicateOperator.the-variants.{IsNull, NotNull, IsNan, NotNan, LessThan, LessThanOrEq, GreaterThan, GreaterThanOrEq, Eq, NotEq, StartsWith, NotStartsWith, In, NotIn}
 use Rattle.sheet.specs.ReadAnswers.{takes, recordCount, contentAt, headIn}
 use Rattle.sheet.specs.PartLaws.{next-here}
 use Rattle.sheet.specs.Records.{recordSize, records, nextIn, content}

@@ -3,7 +3,7 @@ use Prim.Native.Nat.{ℕ}
 use mathlib.Core.Bool.{Bool, true, false, not, _||_}
 use mathlib.Core.List.{List}
 use lib.IntN.{ℤ}
-use Rattle.values.specs.Outcomes.{Res, ok, err, need, each, _>>=_, _>>_, Row, missing, present}
+use Rattle.values.specs.Outcomes.{Res, ok, need, each, _>>=_, _>>_, Row, missing, present}
 use Rattle.values.specs.Utf8.{utf8}
 use Rattle.values.specs.Words.{leNumber, signed}
 use Rattle.values.specs.declared.error.ErrorKind.the-variants.{NotUtf8}

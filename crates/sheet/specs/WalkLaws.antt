@@ -4,7 +4,7 @@ use Prim.Native.Nat.{ℕ, zero, suc, _+_, _-_, _*_, _≤_, _<_}
 use native.Mathlib.Omega.{arith}
 use mathlib.Core.Bool.{Bool, true, false, cond}
 use mathlib.Core.List.{List, [], _∷_, map}
-use mathlib.Core.Path.{_≡_, refl, sym, ap, subst, _∙_}
+use mathlib.Core.Path.{_≡_, refl, ap, subst, _∙_}
 use lib.Dec.{eqb}
 use lib.ListN.{length, getD, drop}
 use lib.Seq.{drop-drop}
@@ -13,12 +13,12 @@ use Rattle.values.specs.OutcomeLaws.{ok-inj, ok-not-err, passed, gone}
 use Rattle.values.specs.Outcomes.{Res, ok, err, need, each, _>>=_, _>>_}
 use Rattle.values.specs.Types.{Layout, layout, fits}
 use Rattle.values.specs.declared.datatypes.PrimitiveType.{PrimitiveType}
-use Rattle.values.specs.declared.error.ErrorKind.{ErrorKind}
 use Rattle.values.specs.declared.error.ErrorKind.the-variants.{Malformed}
 use Rattle.sheet.specs.ReadAnswers.{isOk, recordCount, contentAt, LiteralAt}
 use Rattle.sheet.specs.RecordLaws.{fits-room}
 use Rattle.sheet.specs.PartLaws.{content-by, content-fits}
 use Rattle.sheet.specs.Records.{recordSize, records, nextIn, lengthIn, content, recordAt}
+use Rattle.sheet.specs.RefusalLaws.{only-ok, only-bind, only-cond, OnlyMalformed, must, chain-only}
 use Rattle.sheet.specs.Sheets.{chain}
 
 -- one number more, of a record that has to hold a literal
@@ -101,32 +101,6 @@ contentsOf s found = do
   ns ← found
   ok (map (contentAt s) ns)
 
--- a result that is refused by 3 alone
-pub record OnlyMalformed {A : Type 0} (r : Res A) : Type 0 where
-  pub only : (e : ErrorKind) → r ≡ err e → e ≡ Malformed
-
-module _ {A : Type 0} where
-  fine : {x : A} → OnlyMalformed (ok x)
-  fine = record { only = λ e q. ok-not-err (sym q) }
-
-  needed : (b : Bool) (r : Res A) → OnlyMalformed r → OnlyMalformed (need b Malformed >> r)
-  needed true r h = h
-  needed false r h = record { only = λ e q. cc }
-
-  chosen : (b : Bool) (r q : Res A) → OnlyMalformed r → OnlyMalformed q → OnlyMalformed (cond b r q)
-  chosen true r q f g = f
-  chosen false r q f g = g
-
-  mapped : {B : Type 0} (r : Res B) (f : B → A) → OnlyMalformed r → OnlyMalformed (r >>= λ x. ok (f x))
-  mapped (ok x) f h = fine
-  mapped (err d) f h = record { only = λ e q. h .only e (cc) }
-
-chain-malformed : (rs : List (List ℕ)) (k n : ℕ) → OnlyMalformed (chain k n rs)
-chain-malformed [] k n = needed (eqb n 0) (ok []) fine
-chain-malformed (r ∷ rs) k n =
-    chosen (eqb n 0) (ok []) _ fine
-    (chosen (eqb n k) _ _ (mapped (chain (suc k) (nextIn r) rs) (λ rs. r ∷ rs) (chain-malformed rs (suc k) (nextIn r))) (chain-malformed rs (suc k) n))
-
 module _ (l : Layout) (s : List ℕ) where
   further : (k : ℕ) → drop recordSize (drop (recordSize * k) s) ≡ drop (recordSize * suc k) s
   further k = let e : recordSize * k + recordSize ≡ recordSize * suc k = omega arith in drop-drop recordSize (recordSize * k) s ∙ ap (λ i. drop i s) e
@@ -161,7 +135,7 @@ module _ (l : Layout) (s : List ℕ) where
       let rs = records m (drop (recordSize * suc k) s) in
       rw (further k)
       (choose (eqb n 0) (eqb n k) _ _ _ _
-      (on-both k (chain (suc k) (nextIn r) rs) (numbersOn l s (suc k) (nextIn r) m) (isOk (content l r)) refl (chain-malformed rs (suc k) (nextIn r))
+      (on-both k (chain (suc k) (nextIn r) rs) (numbersOn l s (suc k) (nextIn r) m) (isOk (content l r)) refl (chain-only rs (suc k) (nextIn r))
       (numbers-chain m (suc k) (nextIn r)))
       (numbers-chain m (suc k) n))
 
@@ -174,13 +148,11 @@ module _ (l : Layout) (s : List ℕ) where
 
 module _ (l : Layout) (s : List ℕ) where
   numbers-malformed : (m k n : ℕ) → OnlyMalformed (numbersOn l s k n m)
-  numbers-malformed zero k n = needed (eqb n 0) (ok []) fine
+  numbers-malformed zero k n = must (eqb n 0) (ok []) only-ok
   numbers-malformed (suc m) k n =
       let r = recordAt s k in
-      chosen (eqb n 0) (ok []) _ fine
-      (chosen (eqb n k) _ _
-      (needed (isOk (content l r)) _ (mapped (numbersOn l s (suc k) (nextIn r) m) (λ ns. k ∷ ns) (numbers-malformed m (suc k) (nextIn r))))
-      (numbers-malformed m (suc k) n))
+      let on = only-bind (numbersOn l s (suc k) (nextIn r) m) (λ (ns : List ℕ). ok (k ∷ ns)) (numbers-malformed m (suc k) (nextIn r)) (λ ns. only-ok) in
+      only-cond (eqb n 0) (ok []) _ only-ok (only-cond (eqb n k) _ _ (must (isOk (content l r)) _ on) (numbers-malformed m (suc k) n))
 
   pub walk-malformed : (at : ℕ) → OnlyMalformed (numbersFrom l s at)
   unfolding numbersFrom

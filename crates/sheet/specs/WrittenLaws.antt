@@ -20,7 +20,7 @@ use Rattle.values.specs.declared.datatypes.PrimitiveType.{PrimitiveType}
 use Rattle.values.specs.declared.error.ErrorKind.the-variants.{Malformed}
 use Rattle.values.specs.declared.transform.Transform.the-variants.{Identity}
 use Rattle.expr.specs.Operators.{operators, operatorNumber}
-use Rattle.expr.specs.Predicates.{Predicate, predicate, operatorIn, literalsIn}
+use Rattle.expr.specs.Predicates.{Predicate, operatorIn, literalsIn}
 use Rattle.sheet.specs.Records.{recordSize, records, nextIn, content}
 use Rattle.sheet.specs.RecordLaws.{fits-room, length-literal, content-back}
 use Rattle.sheet.specs.Sheets.{chain, head, sheet}

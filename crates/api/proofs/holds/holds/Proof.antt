@@ -1,5 +1,4 @@
 -- `api::holds::holds` meets its contract: the sheet is read, and then the value is tested. Assumes nothing.
-use denote.Ref.{now}
 use borrow.Author.Needs.{needs}
 use Rattle.api.proofs.HoldsReads.{no-sheet, read, placed, value-tested}
 use Rattle.api.proofs.holds.holds.Statement.{statement}
