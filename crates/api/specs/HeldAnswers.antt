@@ -5,7 +5,7 @@ use mathlib.Core.List.{List, [], _∷_, map}
 use mathlib.Core.Logic.{_⊎_}
 use mathlib.Core.Path.{_≡_}
 use lib.IntN.{ℤ, pos}
-use lib.ListN.{length, getD}
+use lib.ListN.{length, getD, take}
 use Rattle.values.specs.Outcomes.{Res, ok, err, errorNumber, need, _>>=_, _>>_, Row, missing, present}
 use Rattle.values.specs.Types.{Layout, number, bytes, layout}
 use Rattle.values.specs.Utf8.{utf8}
@@ -14,7 +14,7 @@ use Rattle.values.specs.declared.datatypes.PrimitiveType.{PrimitiveType}
 use Rattle.values.specs.declared.error.ErrorKind.the-variants.{NotUtf8}
 use Rattle.expr.specs.Operators.{Arity, none, one, many}
 use Rattle.expr.specs.Holds.{Tests, numberTests, bytesTests, missingMeets, unaryMeets, binaryMeets, setMeets}
-use Rattle.sheet.specs.ReadAnswers.{LiteralAt}
+use Rattle.sheet.specs.ReadAnswers.{contentAt, numberAt, LiteralAt}
 use Rattle.sheet.specs.Records.{value}
 use Rattle.sheet.specs.Values.{isString}
 use Rattle.api.specs.HoldsTest.{byLayout}
@@ -25,6 +25,13 @@ use Rattle.api.specs.declared.holds.Held.the-variants.{Yes, No, Err}
 pub record Placed (l : Layout) (s numbers : List ℕ) (count : ℕ) : Type 0 where
   pub room : count ≤ length numbers
   pub each : (i : ℕ) → i < count → LiteralAt l s (getD numbers i 0)
+
+-- the contents and the numbers in those records
+abbrev pub contentsAt : List ℕ → List ℕ → ℕ → List (List ℕ)
+contentsAt s numbers count = map (contentAt s) (take count numbers)
+
+abbrev pub numbersAt : Layout → List ℕ → List ℕ → ℕ → List ℤ
+numbersAt l s numbers count = map (numberAt l s) (take count numbers)
 
 abbrev pub allUtf8 : List (List ℕ) → Bool
 allUtf8 [] = true

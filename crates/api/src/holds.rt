@@ -18,9 +18,8 @@ use values::words::i32_at;
 use values::words::i64_at;
 ghost use mathlib.Core.Path.{_≡_};
 ghost use mathlib.Core.Bool.{true};
-ghost use mathlib.Core.List.{map};
 ghost use mathlib.Core.Logic.{_⊎_};
-ghost use lib.ListN.{length, take};
+ghost use lib.ListN.{length};
 ghost use Rattle.values.specs.Ascending.{elem};
 ghost use Rattle.values.specs.Order.{compareNumbers, compareBytes};
 ghost use Rattle.values.specs.Outcomes.{ok};
@@ -29,9 +28,8 @@ ghost use Rattle.values.specs.Words.{leNumber, signed};
 ghost use Rattle.values.specs.declared.datatypes.PrimitiveType.the-variants.{String};
 ghost use Rattle.expr.specs.Operators.{arity};
 ghost use Rattle.expr.specs.Holds.{numberTests, bytesTests, missingMeets};
-ghost use Rattle.sheet.specs.ReadAnswers.{contentAt, numberAt};
 ghost use Rattle.api.specs.HoldsTest.{holdsTest};
-ghost use Rattle.api.specs.HeldAnswers.{Placed, allUtf8, presentHeld, held, row, rowUtf8, NumberType, numbersHeld, bytesHeld};
+ghost use Rattle.api.specs.HeldAnswers.{Placed, contentsAt, numbersAt, allUtf8, presentHeld, held, row, rowUtf8, NumberType, numbersHeld, bytesHeld};
 ghost use Rattle.api.specs.HeldAnswers.{heldOf, valueHeld, heldAs, heldCode};
 
 // Whether a value meets a leaf, or why that is not said.
@@ -57,7 +55,7 @@ impl Held {
 // Whether a number equals one of the literals in the records that the first count numbers name.
 fn number_among(s: &[u8], numbers: &[u16], count: usize, column: PrimitiveType, v: i64) -> bool
     requires { ⌜ Placed (layout column) (now s) (now numbers) count ⌝ }
-    ensures { λ r. ⌜ r ≡ elem compareNumbers v (map (numberAt (layout column) (now (s .entry))) (take count (now (numbers .entry)))) ⌝ }
+    ensures { λ r. ⌜ r ≡ elem compareNumbers v (numbersAt (layout column) (now (s .entry)) (now (numbers .entry)) count) ⌝ }
 {
     let mut i = 0;
     while i < count {
@@ -73,7 +71,7 @@ fn number_among(s: &[u8], numbers: &[u16], count: usize, column: PrimitiveType, 
 // The same for a byte string.
 fn bytes_among(s: &[u8], numbers: &[u16], count: usize, column: PrimitiveType, v: &[u8]) -> bool
     requires { ⌜ Placed (layout column) (now s) (now numbers) count ⌝ }
-    ensures { λ r. ⌜ r ≡ elem compareBytes (now (v .entry)) (map (contentAt (now (s .entry))) (take count (now (numbers .entry)))) ⌝ }
+    ensures { λ r. ⌜ r ≡ elem compareBytes (now (v .entry)) (contentsAt (now (s .entry)) (now (numbers .entry)) count) ⌝ }
 {
     let mut i = 0;
     while i < count {
@@ -89,7 +87,7 @@ fn bytes_among(s: &[u8], numbers: &[u16], count: usize, column: PrimitiveType, v
 // Whether all those literals are UTF-8.
 fn literals_utf8(s: &[u8], numbers: &[u16], count: usize, column: PrimitiveType) -> bool
     requires { ⌜ Placed (layout column) (now s) (now numbers) count ⌝ }
-    ensures { λ r. ⌜ r ≡ allUtf8 (map (contentAt (now (s .entry))) (take count (now (numbers .entry)))) ⌝ }
+    ensures { λ r. ⌜ r ≡ allUtf8 (contentsAt (now (s .entry)) (now (numbers .entry)) count) ⌝ }
 {
     let mut i = 0;
     while i < count {
@@ -123,7 +121,7 @@ fn number_holds(
     v: i64,
 ) -> bool
     requires { ⌜ Placed (layout column) (now s) (now numbers) count ⌝ }
-    ensures { λ r. ⌜ r ≡ presentHeld numberTests (arity operator) (map (numberAt (layout column) (now (s .entry))) (take count (now (numbers .entry)))) v ⌝ }
+    ensures { λ r. ⌜ r ≡ presentHeld numberTests (arity operator) (numbersAt (layout column) (now (s .entry)) (now (numbers .entry)) count) v ⌝ }
 {
     match operator {
         PredicateOperator::IsNull => false,
@@ -152,7 +150,7 @@ fn bytes_holds(
     v: &[u8],
 ) -> bool
     requires { ⌜ Placed (layout column) (now s) (now numbers) count ⌝ }
-    ensures { λ r. ⌜ r ≡ presentHeld bytesTests (arity operator) (map (contentAt (now (s .entry))) (take count (now (numbers .entry)))) (now (v .entry)) ⌝ }
+    ensures { λ r. ⌜ r ≡ presentHeld bytesTests (arity operator) (contentsAt (now (s .entry)) (now (numbers .entry)) count) (now (v .entry)) ⌝ }
 {
     match operator {
         PredicateOperator::IsNull => false,
@@ -202,7 +200,7 @@ fn test_number(
 ) -> Held
     requires { ⌜ Placed (layout column) (now s) (now numbers) count ⌝ }
     requires { ⌜ (present ≡ true → NumberType column (length (now value))) ⌝ }
-    ensures { λ r. ⌜ r ≡ heldAs (ok (numbersHeld (layout column) (arity operator) (map (contentAt (now (s .entry))) (take count (now (numbers .entry)))) (row present (now (value .entry))))) ⌝ }
+    ensures { λ r. ⌜ r ≡ heldAs (ok (numbersHeld (layout column) (arity operator) (contentsAt (now (s .entry)) (now (numbers .entry)) count) (row present (now (value .entry))))) ⌝ }
 {
     if present {
         answered(number_holds(s, numbers, count, operator, column, number_in(value)))
@@ -222,7 +220,7 @@ fn test_bytes(
     value: &[u8],
 ) -> Held
     requires { ⌜ Placed (layout column) (now s) (now numbers) count ⌝ }
-    ensures { λ r. ⌜ r ≡ heldAs (ok (held bytesTests (arity operator) (map (contentAt (now (s .entry))) (take count (now (numbers .entry)))) (row present (now (value .entry))))) ⌝ }
+    ensures { λ r. ⌜ r ≡ heldAs (ok (held bytesTests (arity operator) (contentsAt (now (s .entry)) (now (numbers .entry)) count) (row present (now (value .entry))))) ⌝ }
 {
     if present {
         answered(bytes_holds(s, numbers, count, operator, column, value))
@@ -249,7 +247,7 @@ fn test_string(
     value: &[u8],
 ) -> Held
     requires { ⌜ Placed (layout column) (now s) (now numbers) count ⌝ }
-    ensures { λ r. ⌜ r ≡ heldAs (bytesHeld String (arity operator) (map (contentAt (now (s .entry))) (take count (now (numbers .entry)))) (row present (now (value .entry)))) ⌝ }
+    ensures { λ r. ⌜ r ≡ heldAs (bytesHeld String (arity operator) (contentsAt (now (s .entry)) (now (numbers .entry)) count) (row present (now (value .entry)))) ⌝ }
 {
     if !literals_utf8(s, numbers, count, column) {
         return Held::Err(ErrorKind::NotUtf8);
@@ -272,7 +270,7 @@ fn test_row(
 ) -> Held
     requires { ⌜ Placed (layout column) (now s) (now numbers) count ⌝ }
     requires { ⌜ (present ≡ true → fits (layout column) (length (now value)) ≡ true) ⌝ }
-    ensures { λ r. ⌜ r ≡ heldAs (heldOf column (arity operator) (map (contentAt (now (s .entry))) (take count (now (numbers .entry)))) (row present (now (value .entry)))) ⌝ }
+    ensures { λ r. ⌜ r ≡ heldAs (heldOf column (arity operator) (contentsAt (now (s .entry)) (now (numbers .entry)) count) (row present (now (value .entry)))) ⌝ }
 {
     match column {
         PrimitiveType::String => test_string(s, numbers, count, operator, column, present, value),
@@ -291,7 +289,7 @@ fn test_value(
     value: &[u8],
 ) -> Held
     requires { ⌜ Placed (layout column) (now s) (now numbers) count ⌝ }
-    ensures { λ r. ⌜ r ≡ heldAs (valueHeld column (arity operator) (map (contentAt (now (s .entry))) (take count (now (numbers .entry)))) (now (value .entry))) ⌝ }
+    ensures { λ r. ⌜ r ≡ heldAs (valueHeld column (arity operator) (contentsAt (now (s .entry)) (now (numbers .entry)) count) (now (value .entry))) ⌝ }
 {
     match read_value(value, column) {
         ValueResult::Missing => test_row(s, numbers, count, operator, column, false, value),
