@@ -7,16 +7,16 @@ use mathlib.Core.Path.{_≡_}
 use lib.IntN.{ℤ, pos}
 use lib.ListN.{length, getD, take}
 use Rattle.values.specs.Outcomes.{Res, ok, err, errorNumber, need, _>>=_, _>>_, Row, missing, present}
-use Rattle.values.specs.Types.{Layout, number, bytes, layout}
+use Rattle.values.specs.Types.{Layout, number, bytes, layout, sameType}
 use Rattle.values.specs.Utf8.{utf8}
 use Rattle.values.specs.Words.{leNumber, signed}
 use Rattle.values.specs.declared.datatypes.PrimitiveType.{PrimitiveType}
+use Rattle.values.specs.declared.datatypes.PrimitiveType.the-variants.{String}
 use Rattle.values.specs.declared.error.ErrorKind.the-variants.{NotUtf8}
 use Rattle.expr.specs.Operators.{Arity, none, one, many}
 use Rattle.expr.specs.Holds.{Tests, numberTests, bytesTests, missingMeets, unaryMeets, binaryMeets, setMeets}
 use Rattle.sheet.specs.ReadAnswers.{contentAt, numberAt, LiteralAt}
 use Rattle.sheet.specs.Records.{value}
-use Rattle.sheet.specs.Values.{isString}
 use Rattle.api.specs.HoldsTest.{byLayout}
 use Rattle.api.specs.declared.holds.Held.{Held}
 use Rattle.api.specs.declared.holds.Held.the-variants.{Yes, No, Err}
@@ -79,8 +79,8 @@ numbersHeld l a ls r = held numberTests a (map (numberIn l) ls) (mapRow (numberI
 -- of a String the literals are to be UTF-8, and the value
 abbrev pub bytesHeld : PrimitiveType → Arity → List (List ℕ) → Row (List ℕ) → Res Bool
 bytesHeld column a ls r = do
-  need (not (isString column) || allUtf8 ls) NotUtf8
-  need (not (isString column) || rowUtf8 r) NotUtf8
+  need (not (sameType column String) || allUtf8 ls) NotUtf8
+  need (not (sameType column String) || rowUtf8 r) NotUtf8
   ok (held bytesTests a ls r)
 
 -- the answer of the holds-test for a column, an operator's kind, literals and a value

@@ -10,10 +10,11 @@ use lib.IntN.{ℤ}
 use lib.ListN.{take}
 use borrow.Author.Tests.{eqb-true}
 use Rattle.values.specs.Outcomes.{Res, ok, err, errorNumber, need, each, _>>=_, _>>_, Row, missing, present}
-use Rattle.values.specs.Types.{Layout, number, bytes, layout}
+use Rattle.values.specs.Types.{Layout, number, bytes, layout, sameType}
 use Rattle.values.specs.Utf8.{utf8}
 use Rattle.values.specs.Words.{leNumber, signed}
 use Rattle.values.specs.declared.datatypes.PrimitiveType.{PrimitiveType}
+use Rattle.values.specs.declared.datatypes.PrimitiveType.the-variants.{String}
 use Rattle.values.specs.declared.error.ErrorKind.the-variants.{Malformed, NotUtf8}
 use Rattle.values.specs.declared.error.ErrorKind.{ErrorKind}
 use Rattle.expr.specs.Holds.{Tests, numberTests, bytesTests, holds}
@@ -25,7 +26,7 @@ use Rattle.sheet.specs.PartLaws.{number-of-content}
 use Rattle.sheet.specs.Records.{lengthIn, recordAt, value}
 use Rattle.sheet.specs.RefusalLaws.{Only, OnlyMalformed, only-ok, only-bind, only-need, value-only, sheet-only}
 use Rattle.sheet.specs.Sheets.{Sheet, sheet, holdsLimit}
-use Rattle.sheet.specs.Values.{readNumber, isString, readBytes, eachLiteral, readRow}
+use Rattle.sheet.specs.Values.{readNumber, readBytes, eachLiteral, readRow}
 use Rattle.api.specs.HeldAnswers.{Placed, allUtf8, held, mapRow, rowUtf8, numberIn, numbersHeld, bytesHeld}
 use Rattle.api.specs.HeldAnswers.{heldOf, heldAs, heldCode}
 use Rattle.api.specs.HoldsTest.{byLayout, tested, testedSheet, holdsTest, heldNumber}
@@ -103,11 +104,11 @@ module _ (s : Bool) where
 
 module _ (column : PrimitiveType) where
   bytes-literals : (leaf : Predicate (List ℕ))
-      → eachLiteral (readBytes column) leaf ≡ (need (not (isString column) || allUtf8 (literalsIn leaf)) NotUtf8 >> ok leaf)
-  bytes-literals leaf = literals-asked (isString column) leaf
+      → eachLiteral (readBytes column) leaf ≡ (need (not (sameType column String) || allUtf8 (literalsIn leaf)) NotUtf8 >> ok leaf)
+  bytes-literals leaf = literals-asked (sameType column String) leaf
 
-  bytes-row : (r : Row (List ℕ)) → readRow (readBytes column) r ≡ (need (not (isString column) || rowUtf8 r) NotUtf8 >> ok r)
-  bytes-row r = row-asked (isString column) r
+  bytes-row : (r : Row (List ℕ)) → readRow (readBytes column) r ≡ (need (not (sameType column String) || rowUtf8 r) NotUtf8 >> ok r)
+  bytes-row r = row-asked (sameType column String) r
 
 -- ---- a sheet's leaf against a row
 module _ (leaf : Predicate (List ℕ)) (r : Row (List ℕ)) where
@@ -125,7 +126,7 @@ module _ (leaf : Predicate (List ℕ)) (r : Row (List ℕ)) where
   bytes-tested : (column : PrimitiveType) → tested bytesTests (readBytes column) leaf r ≡ bytesHeld column a ls r
   bytes-tested column =
       rw (bytes-literals column leaf, bytes-row column r)
-      (then-need NotUtf8 (not (isString column) || allUtf8 ls) (not (isString column) || rowUtf8 r) leaf r (holds bytesTests)
+      (then-need NotUtf8 (not (sameType column String) || allUtf8 ls) (not (sameType column String) || rowUtf8 r) leaf r (holds bytesTests)
       ∙ rw (holds-held bytesTests leaf r))
 
   same-layout : (column : PrimitiveType) (l : Layout)
@@ -154,7 +155,7 @@ held-only column a ls r = by (layout column)
     by : (l : Layout) → Only Refusal (byLayout l (λ n. ok (numbersHeld (number n) a ls r)) (bytesHeld column a ls r))
     by (number n) = only-ok
     by (bytes n) =
-        only-need (not (isString column) || allUtf8 ls) NotUtf8 _ (inr refl) (only-need (not (isString column) || rowUtf8 r) NotUtf8 _ (inr refl) only-ok)
+        only-need (not (sameType column String) || allUtf8 ls) NotUtf8 _ (inr refl) (only-need (not (sameType column String) || rowUtf8 r) NotUtf8 _ (inr refl) only-ok)
 
 test-only : (s v : List ℕ) → Only Refusal (holdsTest s v)
 unfolding holdsTest

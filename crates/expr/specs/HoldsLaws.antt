@@ -1,4 +1,4 @@
--- The opposite of a test, sets whatever their order and repeats, and the tests without a literal. Assumes nothing.
+-- The opposite of a test, and sets whatever their order and repeats. Assumes nothing.
 use mathlib.Core.Bool.{true, false, not}
 use mathlib.Core.List.{List}
 use mathlib.Core.Path.{_≡_, refl, sym, ap, _∙_}

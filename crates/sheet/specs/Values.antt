@@ -1,36 +1,25 @@
 -- The values that contents stand for: numbers in two's complement, and byte strings, which are UTF-8 where the column is a String. Assumes nothing.
 use Prim.Native.Nat.{ℕ}
-use mathlib.Core.Bool.{Bool, true, false, not, _||_}
+use mathlib.Core.Bool.{not, _||_}
 use mathlib.Core.List.{List}
 use lib.IntN.{ℤ}
 use Rattle.values.specs.Outcomes.{Res, ok, need, each, _>>=_, _>>_, Row, missing, present}
+use Rattle.values.specs.Types.{sameType}
 use Rattle.values.specs.Utf8.{utf8}
 use Rattle.values.specs.Words.{leNumber, signed}
 use Rattle.values.specs.declared.error.ErrorKind.the-variants.{NotUtf8}
 use Rattle.values.specs.declared.datatypes.PrimitiveType.{PrimitiveType}
-use Rattle.values.specs.declared.datatypes.PrimitiveType.the-variants.{Int, Long, Date, Time, Timestamp, Timestamptz, TimestampNs, TimestamptzNs, String, Binary}
+use Rattle.values.specs.declared.datatypes.PrimitiveType.the-variants.{String}
 use Rattle.expr.specs.Predicates.{Predicate, unary, test, binary, set}
 
 -- a number of n bytes
 abbrev pub readNumber : ℕ → List ℕ → Res ℤ
 readNumber n bytes = ok (signed n (leNumber bytes))
 
-abbrev pub isString : PrimitiveType → Bool
-isString Int = false
-isString Long = false
-isString Date = false
-isString Time = false
-isString Timestamp = false
-isString Timestamptz = false
-isString TimestampNs = false
-isString TimestamptzNs = false
-isString String = true
-isString Binary = false
-
 -- 01: "4: a String literal or value is not UTF-8"
 abbrev pub readBytes : PrimitiveType → List ℕ → Res (List ℕ)
 readBytes column bytes = do
-  need (not (isString column) || utf8 bytes) NotUtf8
+  need (not (sameType column String) || utf8 bytes) NotUtf8
   ok bytes
 
 -- a leaf's literals, and a row's value, read in their turn

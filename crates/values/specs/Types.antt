@@ -28,6 +28,9 @@ typeNumber TimestamptzNs = 8
 typeNumber String = 9
 typeNumber Binary = 10
 
+abbrev pub sameType : PrimitiveType → PrimitiveType → Bool
+sameType a b = eqb (typeNumber a) (typeNumber b)
+
 -- the most bytes of a String or a Binary
 abbrev pub contentSize : ℕ
 contentSize = 60

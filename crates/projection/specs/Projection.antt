@@ -1,0 +1,104 @@
+-- The two projections of a leaf: what it comes to on the partition values of a column's transform. Assumes nothing.
+use Prim.Native.Nat.{ℕ}
+use mathlib.Core.Bool.{Bool, true, false, cond}
+use mathlib.Core.List.{List}
+use lib.IntN.{ℤ}
+use lib.ListN.{length}
+use Rattle.values.specs.Ascending.{ascending}
+use Rattle.values.specs.Order.{compareNumbers, compareBytes}
+use Rattle.values.specs.Outcomes.{Res, ok, err, need, _>>=_, _>>_}
+use Rattle.values.specs.Transforms.{widthOf}
+use Rattle.values.specs.Types.{sameType}
+use Rattle.values.specs.Utf8.{codePoints}
+use Rattle.values.specs.declared.datatypes.PrimitiveType.{PrimitiveType}
+use Rattle.values.specs.declared.datatypes.PrimitiveType.the-variants.{String}
+use Rattle.values.specs.declared.error.ErrorKind.the-variants.{FeatureUnsupported}
+use Rattle.values.specs.declared.order.Ordering.{Ordering}
+use Rattle.values.specs.declared.transform.Transform.{Transform}
+use Rattle.values.specs.declared.transform.Transform.the-variants.{Identity, Truncate, Year, Month, Day, Hour, Void, Unknown}
+use Rattle.transform.specs.Partition.{checked, transformNumber, transformBytes}
+use Rattle.expr.specs.Predicates.{Test, binary, set, Predicate, unary, test}
+use Rattle.projection.specs.ByteSteps.{inclusiveBytes, strictBytes}
+use Rattle.projection.specs.Lifting.{lifted, lift}
+use Rattle.projection.specs.NumberSteps.{inclusiveNumber, strictNumber}
+use Rattle.projection.specs.Steps.{Projected, some, none, mapped, literalUnder}
+
+-- ---- a leaf of either kind
+
+-- the leaf itself, its literals as an answer sheet has them: ascending and without repeats
+abbrev pub inOrder : {A : Type 0} → (A → A → Ordering) → Predicate A → Predicate A
+inOrder compare (unary o) = unary o
+inOrder compare (test (binary o l)) = test (binary o l)
+inOrder compare (test (set o ls)) = test (set o (ascending compare ls))
+
+-- 01: "101–104 pass through unchanged"
+abbrev pub through : {A : Type 0} → (Test A → Res (Projected (Test A))) → Predicate A → Res (Projected (Predicate A))
+through step (unary o) = ok (some (unary o))
+through step (test t) = do
+  q ← step t
+  ok (mapped test q)
+
+-- 01: "Void: no predicate for any operator"; "Identity: the leaf itself"; Unknown's 7 comes before all steps
+module _ {A : Type 0} (compare : A → A → Ordering) (step : Test A → Res (Projected (Test A))) where
+  abbrev pub byTransform : Transform → Predicate A → Res (Projected (Predicate A))
+  byTransform Identity leaf = ok (some (inOrder compare leaf))
+  byTransform (Truncate width) leaf = through step leaf
+  byTransform Year leaf = through step leaf
+  byTransform Month leaf = through step leaf
+  byTransform Day leaf = through step leaf
+  byTransform Hour leaf = through step leaf
+  byTransform Void leaf = ok none
+  byTransform Unknown leaf = err FeatureUnsupported
+
+  -- 01: "Checks run .. 5, then Unknown (7), then the steps below"
+  abbrev pub projection : PrimitiveType → Transform → Predicate A → Res (Projected (Predicate A))
+  projection column transform leaf = do
+    to ← checked column transform
+    byTransform transform leaf
+
+-- ---- numbers and times
+abbrev pub liftedBy : Bool → Projected (Test ℤ) → Projected (Test ℤ)
+liftedBy true q = mapped lift q
+liftedBy false q = q
+
+module _ (column : PrimitiveType) (transform : Transform) where
+  abbrev pub numberUnder : ℤ → Res ℤ
+  numberUnder l = literalUnder (transformNumber column transform) l
+
+  abbrev pub inclusiveStep : Test ℤ → Res (Projected (Test ℤ))
+  inclusiveStep t = do
+    q ← inclusiveNumber numberUnder t
+    ok (liftedBy (lifted column transform) q)
+
+  unfoldable pub inclusiveNumbers : Predicate ℤ → Res (Projected (Predicate ℤ))
+  inclusiveNumbers leaf = projection compareNumbers inclusiveStep column transform leaf
+
+  unfoldable pub strictNumbers : Predicate ℤ → Res (Projected (Predicate ℤ))
+  strictNumbers leaf = projection compareNumbers (strictNumber numberUnder) column transform leaf
+
+-- ---- strings and binaries
+
+-- how long a literal is: a String in code points, a Binary in bytes
+abbrev pub lengthOf : PrimitiveType → List ℕ → ℕ
+lengthOf column s = cond (sameType column String) (length (codePoints s)) (length s)
+
+-- 01, of Binary: "inclusive 207 and 208 always 7"
+abbrev pub inclusiveLength : PrimitiveType → List ℕ → Res ℕ
+inclusiveLength column s = do
+  need (sameType column String) FeatureUnsupported
+  ok (lengthOf column s)
+
+-- 01, of Binary: "strict 207 and 208 as for strings, counting bytes"
+abbrev pub strictLength : PrimitiveType → List ℕ → Res ℕ
+strictLength column s = ok (lengthOf column s)
+
+module _ (column : PrimitiveType) (transform : Transform) where
+  abbrev pub bytesUnder : List ℕ → Res (List ℕ)
+  bytesUnder l = literalUnder (transformBytes column transform) l
+
+  unfoldable pub inclusiveByteStrings : Predicate (List ℕ) → Res (Projected (Predicate (List ℕ)))
+  inclusiveByteStrings leaf =
+      projection compareBytes (inclusiveBytes bytesUnder (inclusiveLength column) (widthOf transform)) column transform leaf
+
+  unfoldable pub strictByteStrings : Predicate (List ℕ) → Res (Projected (Predicate (List ℕ)))
+  strictByteStrings leaf = projection compareBytes (strictBytes bytesUnder (strictLength column) (widthOf transform)) column transform leaf
