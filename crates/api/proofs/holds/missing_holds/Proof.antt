@@ -10,8 +10,11 @@ use Rattle.expr.specs.Holds.{missingMeets}
 use Rattle.api.proofs.holds.missing_holds.Statement.{statement}
 use Rattle.api.proofs.holds.missing_holds.Tie as tie
 
+returns : tie.Need-returns
+returns c = search needs
+
 returns-2 : tie.Need-returns-2
 returns-2 c = agree (λ o. false) (λ o. missingMeets (arity o)) (but (IsNull ∷ [])) (c .before .args .operator) (c .match .keys2) refl
 
 pub missing-holds-spec : {M : Type 1} → statement M
-missing-holds-spec = tie.close (tie.spec (search needs) (λ c. search needs) returns-2)
+missing-holds-spec = tie.close (tie.spec (search needs) returns returns-2)
