@@ -14,6 +14,9 @@ pub const HEADER_SIZE: usize = 4;
 
 pub const CONTENT_SIZE: usize = 60;
 
+// The length that marks a value as missing.
+pub const MISSING_MARK: u16 = 65535;
+
 // Whether the n bytes from `at` on are zero: eight at a time, then one by one.
 pub fn zeros(s: &[u8], at: usize, n: usize) -> bool
     requires { ⌜ at + n ≤ length (now s) ⌝ }

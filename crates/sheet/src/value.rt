@@ -2,6 +2,7 @@
 use crate::literal::literal_ok;
 use crate::records::CONTENT_SIZE;
 use crate::records::HEADER_SIZE;
+use crate::records::MISSING_MARK;
 use crate::records::RECORD_SIZE;
 use crate::records::zeros;
 use values::datatypes::PrimitiveType;
@@ -29,7 +30,7 @@ pub fn read_value(v: &[u8], column: PrimitiveType) -> ValueResult
         return ValueResult::Err(ErrorKind::Malformed);
     }
     let n = u16_at(v, 2) as usize;
-    if n == 65535 {
+    if n == MISSING_MARK as usize {
         if zeros(v, HEADER_SIZE, CONTENT_SIZE) {
             return ValueResult::Missing;
         }

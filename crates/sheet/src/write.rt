@@ -1,6 +1,7 @@
 // Writing records into a lent buffer: the head of a sheet, its literals, and a missing value.
 use crate::records::CONTENT_SIZE;
 use crate::records::HEADER_SIZE;
+use crate::records::MISSING_MARK;
 use crate::records::RECORD_SIZE;
 use expr::operator::PredicateOperator;
 use values::datatypes::PrimitiveType;
@@ -143,6 +144,6 @@ pub fn put_missing(d: &mut [u8])
     requires { ⌜ recordSize ≤ length (now d) ⌝ }
     ensures { λ _. ⌜ now (d .exit) ≡ over 0 (valueRecord missing) (now (d .entry)) ⌝ }
 {
-    put_header(d, 0, 0, 65535);
+    put_header(d, 0, 0, MISSING_MARK);
     put_zeros(d, HEADER_SIZE, CONTENT_SIZE);
 }

@@ -55,6 +55,7 @@ read-value-spec =
     (search needs)
     (search needs)
     (search needs)
+    (search needs)
     returns-3
     returns-4
     (search needs)
