@@ -20,7 +20,8 @@ use Rattle.sheet.specs.declared.sheet.SheetResult.{SheetResult}
 use Rattle.sheet.specs.declared.sheet.SheetResult.the-variants as sheet-result
 use Rattle.sheet.specs.declared.value.ValueResult.{ValueResult}
 use Rattle.sheet.specs.declared.value.ValueResult.the-variants as value-result
-use Rattle.api.specs.HeldAnswers.{Placed, heldOf, valueHeld, heldAs}
+use Rattle.api.specs.HeldAnswers.{heldOf, valueHeld, heldAs}
+use Rattle.sheet.specs.ReadAnswers.{Placed}
 use Rattle.api.specs.HeldLaws.{tested-held}
 use Rattle.api.specs.HoldsTest.{testedSheet, holdsTest}
 use Rattle.api.specs.declared.holds.Held.{Held}

@@ -23,7 +23,8 @@ use Rattle.values.proofs.datatypes.PrimitiveType.{the-type}
 use Rattle.expr.specs.Holds.{numberTests}
 use Rattle.expr.specs.Operators.{Arity}
 use Rattle.sheet.specs.ReadAnswers.{contentAt, numberAt}
-use Rattle.api.specs.HeldAnswers.{Placed, presentHeld, numberIn, NumberType}
+use Rattle.api.specs.HeldAnswers.{presentHeld, numberIn, NumberType}
+use Rattle.sheet.specs.ReadAnswers.{Placed}
 use Rattle.api.specs.HeldLaws.{placed-numbers}
 
 -- the types of `_`, beside String and Binary, are those of numbers

@@ -15,23 +15,11 @@ use Rattle.values.specs.declared.datatypes.PrimitiveType.the-variants.{String}
 use Rattle.values.specs.declared.error.ErrorKind.the-variants.{NotUtf8}
 use Rattle.expr.specs.Operators.{Arity, none, one, many}
 use Rattle.expr.specs.Holds.{Tests, numberTests, bytesTests, missingMeets, unaryMeets, binaryMeets, setMeets}
-use Rattle.sheet.specs.ReadAnswers.{contentAt, numberAt, LiteralAt}
 use Rattle.sheet.specs.Records.{value}
 use Rattle.api.specs.HoldsTest.{byLayout}
+use Rattle.api.specs.Kinds.{mapRow}
 use Rattle.api.specs.declared.holds.Held.{Held}
 use Rattle.api.specs.declared.holds.Held.the-variants.{Yes, No, Err}
-
--- the first count numbers name records of a sheet that hold literals of the layout
-pub record Placed (l : Layout) (s numbers : List ℕ) (count : ℕ) : Type 0 where
-  pub room : count ≤ length numbers
-  pub each : (i : ℕ) → i < count → LiteralAt l s (getD numbers i 0)
-
--- the contents and the numbers in those records
-abbrev pub contentsAt : List ℕ → List ℕ → ℕ → List (List ℕ)
-contentsAt s numbers count = map (contentAt s) (take count numbers)
-
-abbrev pub numbersAt : Layout → List ℕ → List ℕ → ℕ → List ℤ
-numbersAt l s numbers count = map (numberAt l s) (take count numbers)
 
 abbrev pub allUtf8 : List (List ℕ) → Bool
 allUtf8 [] = true
@@ -54,10 +42,6 @@ held by a ls (present v) = presentHeld by a ls v
 abbrev pub row : {A : Type 0} → Bool → A → Row A
 row true v = present v
 row false v = missing
-
-abbrev pub mapRow : {A B : Type 0} → (A → B) → Row A → Row B
-mapRow f missing = missing
-mapRow f (present v) = present (f v)
 
 abbrev pub rowUtf8 : Row (List ℕ) → Bool
 rowUtf8 missing = true

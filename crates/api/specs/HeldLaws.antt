@@ -27,8 +27,10 @@ use Rattle.sheet.specs.Records.{lengthIn, recordAt, value}
 use Rattle.sheet.specs.RefusalLaws.{Only, OnlyMalformed, only-ok, only-bind, only-need, value-only, sheet-only}
 use Rattle.sheet.specs.Sheets.{Sheet, sheet, holdsLimit}
 use Rattle.sheet.specs.Values.{readNumber, readBytes, eachLiteral, readRow}
-use Rattle.api.specs.HeldAnswers.{Placed, allUtf8, held, mapRow, rowUtf8, numberIn, numbersHeld, bytesHeld}
+use Rattle.api.specs.HeldAnswers.{allUtf8, held, rowUtf8, numberIn, numbersHeld, bytesHeld}
+use Rattle.sheet.specs.ReadAnswers.{Placed}
 use Rattle.api.specs.HeldAnswers.{heldOf, heldAs, heldCode}
+use Rattle.api.specs.Kinds.{mapRow}
 use Rattle.api.specs.HoldsTest.{byLayout, tested, testedSheet, holdsTest, heldNumber}
 
 -- ---- a predicate by its operator and its literals

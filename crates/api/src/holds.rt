@@ -29,7 +29,8 @@ ghost use Rattle.values.specs.declared.datatypes.PrimitiveType.the-variants.{St
 ghost use Rattle.expr.specs.Operators.{arity};
 ghost use Rattle.expr.specs.Holds.{numberTests, bytesTests, missingMeets};
 ghost use Rattle.api.specs.HoldsTest.{holdsTest};
-ghost use Rattle.api.specs.HeldAnswers.{Placed, contentsAt, numbersAt, allUtf8, presentHeld, held, row, rowUtf8, NumberType, numbersHeld, bytesHeld};
+ghost use Rattle.api.specs.HeldAnswers.{allUtf8, presentHeld, held, row, rowUtf8, NumberType, numbersHeld, bytesHeld};
+ghost use Rattle.sheet.specs.ReadAnswers.{Placed, contentsAt, numbersAt};
 ghost use Rattle.api.specs.HeldAnswers.{heldOf, valueHeld, heldAs, heldCode};
 
 // Whether a value meets a leaf, or why that is not said.

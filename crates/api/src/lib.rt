@@ -1,2 +1,3 @@
 // The routines over bytes.
+pub mod answer;
 pub mod holds;

@@ -18,6 +18,8 @@ use Rattle.values.specs.declared.transform.Transform.{Transform}
 use Rattle.values.specs.declared.transform.Transform.the-variants.{Identity, Truncate, Year, Month, Day, Hour, Void, Unknown}
 use Rattle.transform.specs.Partition.{checked, transformNumber, transformBytes}
 use Rattle.expr.specs.Predicates.{Test, binary, set, Predicate, unary, test}
+use Rattle.projection.specs.declared.question.Question.{Question}
+use Rattle.projection.specs.declared.question.Question.the-variants.{Inclusive, Strict}
 use Rattle.projection.specs.ByteSteps.{inclusiveBytes, strictBytes}
 use Rattle.projection.specs.Lifting.{lifted, lift}
 use Rattle.projection.specs.NumberSteps.{inclusiveNumber, strictNumber}
@@ -65,16 +67,14 @@ module _ (column : PrimitiveType) (transform : Transform) where
   abbrev pub numberUnder : ℤ → Res ℤ
   numberUnder l = literalUnder (transformNumber column transform) l
 
-  abbrev pub inclusiveStep : Test ℤ → Res (Projected (Test ℤ))
-  inclusiveStep t = do
+  abbrev pub numberStep : Question → Test ℤ → Res (Projected (Test ℤ))
+  numberStep Inclusive t = do
     q ← inclusiveNumber numberUnder t
     ok (liftedBy (lifted column transform) q)
+  numberStep Strict t = strictNumber numberUnder t
 
-  unfoldable pub inclusiveNumbers : Predicate ℤ → Res (Projected (Predicate ℤ))
-  inclusiveNumbers leaf = projection compareNumbers inclusiveStep column transform leaf
-
-  unfoldable pub strictNumbers : Predicate ℤ → Res (Projected (Predicate ℤ))
-  strictNumbers leaf = projection compareNumbers (strictNumber numberUnder) column transform leaf
+unfoldable pub projectNumbers : Question → PrimitiveType → Transform → Predicate ℤ → Res (Projected (Predicate ℤ))
+projectNumbers question column transform leaf = projection compareNumbers (numberStep column transform question) column transform leaf
 
 -- ---- strings and binaries
 
@@ -96,9 +96,9 @@ module _ (column : PrimitiveType) (transform : Transform) where
   abbrev pub bytesUnder : List ℕ → Res (List ℕ)
   bytesUnder l = literalUnder (transformBytes column transform) l
 
-  unfoldable pub inclusiveByteStrings : Predicate (List ℕ) → Res (Projected (Predicate (List ℕ)))
-  inclusiveByteStrings leaf =
-      projection compareBytes (inclusiveBytes bytesUnder (inclusiveLength column) (widthOf transform)) column transform leaf
+  abbrev pub bytesStep : Question → Test (List ℕ) → Res (Projected (Test (List ℕ)))
+  bytesStep Inclusive t = inclusiveBytes bytesUnder (inclusiveLength column) (widthOf transform) t
+  bytesStep Strict t = strictBytes bytesUnder (strictLength column) (widthOf transform) t
 
-  unfoldable pub strictByteStrings : Predicate (List ℕ) → Res (Projected (Predicate (List ℕ)))
-  strictByteStrings leaf = projection compareBytes (strictBytes bytesUnder (strictLength column) (widthOf transform)) column transform leaf
+unfoldable pub projectBytes : Question → PrimitiveType → Transform → Predicate (List ℕ) → Res (Projected (Predicate (List ℕ)))
+projectBytes question column transform leaf = projection compareBytes (bytesStep column transform question) column transform leaf

@@ -1,1 +1,2 @@
-// The two projections of a leaf (src/spec/transform.rs): so far their definitions, in `specs/`.
+// The steps of both projections over a leaf's literals (src/spec/transform.rs).
+pub mod question;

@@ -8,13 +8,13 @@ use lib.IntN.{ℤ, pos}
 use mir.Syntax.{w32, w64}
 use mir.Val.{SFits, toZ, ofZ}
 use Rattle.values.specs.IntLaws.{back}
-use Rattle.values.specs.RangeLaws.{widen}
+use Rattle.values.specs.RangeLaws.{widen, four, eight, range-fits}
 use Rattle.values.specs.Types.{layout, number, bytes, contentSize, fits}
 use Rattle.values.specs.Words.{word, signed}
 use Rattle.values.specs.declared.datatypes.PrimitiveType.{PrimitiveType}
 use Rattle.expr.specs.Operators.{arity}
 use Rattle.expr.specs.declared.operator.PredicateOperator.{PredicateOperator}
-use Rattle.sheet.specs.ReadAnswers.{numberAt, takes}
+use Rattle.sheet.specs.ReadAnswers.{numberAt, InLayout, takes}
 use Rattle.sheet.specs.PartLaws.{in-record}
 use Rattle.sheet.specs.Records.{headerSize, recordSize}
 
@@ -36,13 +36,22 @@ module _ {ty kind : PrimitiveType} (is : ty ≡ kind) where
           → toZ w64 (ofZ w64 z) ≡ numberAt (layout ty) s k
       eight-bytes e f d = rw (back f) (numbered 8 (lit≤ tt) e d)
 
+      pub four-ranged : layout kind ≡ number 4 → SFits w32 z → InLayout (layout ty) (toZ w64 (ofZ w64 (toZ w32 (ofZ w32 z))))
+      four-ranged e f = rw (back f, back (widen f), is, e) (range-fits four z .1 f)
+
+      pub eight-ranged : layout kind ≡ number 8 → SFits w64 z → InLayout (layout ty) (toZ w64 (ofZ w64 z))
+      eight-ranged e f = rw (back f, is, e) (range-fits eight z .1 f)
+
     pub no-number : layout kind ≡ bytes contentSize → pos 0 ≡ numberAt (layout ty) s k
     no-number e = rw (is, e)
+
+    pub no-range : layout kind ≡ bytes contentSize → InLayout (layout ty) (pos 0)
+    no-range e = rw (is, e) tt
 
 pub cast-up : {z : ℤ} → SFits w32 z → SFits w64 (toZ w32 (ofZ w32 z))
 cast-up f = rw (back f) (widen f)
 
-pub ruleset numbering = (four-bytes, eight-bytes, no-number)
+pub ruleset numbering = (four-bytes, eight-bytes, no-number, four-ranged, eight-ranged, no-range)
 
 pub takes-arm : {o kind : PredicateOperator} (is : o ≡ kind) {r : Bool} (n : ℕ) → r ≡ takes (arity kind) n → r ≡ takes (arity o) n
 takes-arm is n e = rw is e

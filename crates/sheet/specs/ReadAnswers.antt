@@ -8,7 +8,7 @@ use lib.IntN.{ℤ, pos}
 use lib.ListN.{length, getD, take}
 use Rattle.values.specs.Numbered.{find}
 use Rattle.values.specs.Outcomes.{Res, ok, err, need, _>>=_, _>>_, Row, missing, present}
-use Rattle.values.specs.Types.{Layout, number, bytes, layout, contentSize, fits}
+use Rattle.values.specs.Types.{Layout, number, bytes, layout, contentSize, fits, inRange}
 use Rattle.values.specs.Words.{leNumber, field, word, zeroAt, signed}
 use Rattle.values.specs.declared.error.ErrorKind.the-variants.{Malformed}
 use Rattle.expr.specs.Operators.{operators, Arity, none, one, many}
@@ -49,6 +49,42 @@ pub record LiteralAt (l : Layout) (s : List ℕ) (k : ℕ) : Type 0 where
   pub there : recordSize * (k + 1) ≤ length s
   pub short : lengthIn (recordAt s k) ≤ contentSize
   pub fitting : fits l (lengthIn (recordAt s k)) ≡ true
+
+-- a number of the layout, where the layout has numbers
+abbrev pub InLayout : Layout → ℤ → Type 0
+InLayout (number n) z = inRange n z ≡ true
+InLayout (bytes n) z = Unit {0}
+
+-- the first count numbers name records of a sheet that hold literals of the layout
+pub record Placed (l : Layout) (s numbers : List ℕ) (count : ℕ) : Type 0 where
+  pub room : count ≤ length numbers
+  pub each : (i : ℕ) → i < count → LiteralAt l s (getD numbers i 0)
+
+-- the contents and the numbers in those records
+abbrev pub contentsAt : List ℕ → List ℕ → ℕ → List (List ℕ)
+contentsAt s numbers count = map (contentAt s) (take count numbers)
+
+abbrev pub numbersAt : Layout → List ℕ → List ℕ → ℕ → List ℤ
+numbersAt l s numbers count = map (numberAt l s) (take count numbers)
+
+-- ---- beginnings of contents
+
+-- the first bytes of record k's content, as many as `sizes` has at k
+abbrev pub partAt : List ℕ → List ℕ → ℕ → List ℕ
+partAt s sizes k = field headerSize (getD sizes k 0) (recordAt s k)
+
+pub record PartAt (s sizes : List ℕ) (k : ℕ) : Type 0 where
+  pub there : recordSize * (k + 1) ≤ length s
+  pub sized : k < length sizes
+  pub short : getD sizes k 0 ≤ contentSize
+
+-- the first count numbers name records of which `sizes` gives a beginning
+pub record Parts (s sizes numbers : List ℕ) (count : ℕ) : Type 0 where
+  pub room : count ≤ length numbers
+  pub each : (i : ℕ) → i < count → PartAt s sizes (getD numbers i 0)
+
+abbrev pub partsAt : List ℕ → List ℕ → List ℕ → ℕ → List (List ℕ)
+partsAt s sizes numbers count = map (partAt s sizes) (take count numbers)
 
 -- ---- the walk along the chain
 

@@ -9,6 +9,7 @@ use Rattle.values.specs.Words.{leBytes, signedBytes}
 use Rattle.values.specs.declared.datatypes.PrimitiveType.{PrimitiveType}
 use Rattle.expr.specs.Operators.{operatorNumber}
 use Rattle.expr.specs.Predicates.{Predicate, operatorIn, literalsIn}
+use Rattle.expr.specs.declared.operator.PredicateOperator.{PredicateOperator}
 use Rattle.sheet.specs.Records.{recordSize, missingMark}
 
 abbrev pub literalRecord : ℕ → List ℕ → List ℕ
@@ -32,8 +33,11 @@ literalRecords k (b ∷ bs) = literalRecord (nextTo (suc k) bs) b ++ literalReco
 abbrev pub headRecord : ℕ → ℕ → ℕ → List ℕ
 headRecord next operator type = leBytes 2 next ++ (leBytes 2 operator ++ (leBytes 1 type ++ replicate (recordSize - 5) 0))
 
+abbrev pub answerBytes : PredicateOperator → PrimitiveType → List (List ℕ) → List ℕ
+answerBytes operator type contents = headRecord (nextTo 1 contents) (operatorNumber operator) (typeNumber type) ++ literalRecords 1 contents
+
 unfoldable pub answerSheet : PrimitiveType → Predicate (List ℕ) → List ℕ
-answerSheet type p = headRecord (nextTo 1 (literalsIn p)) (operatorNumber (operatorIn p)) (typeNumber type) ++ literalRecords 1 (literalsIn p)
+answerSheet type p = answerBytes (operatorIn p) type (literalsIn p)
 
 -- the content of a literal that is a number; a byte layout has none
 abbrev pub numberBytes : Layout → ℤ → List ℕ

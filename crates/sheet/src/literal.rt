@@ -12,8 +12,9 @@ ghost use mathlib.Core.Path.{_≡_};
 ghost use Prim.Native.Nat.{_+_, _*_, _≤_};
 ghost use lib.ListN.{length};
 ghost use Rattle.values.specs.Types.{layout, contentSize};
-ghost use Rattle.sheet.specs.Records.{recordSize, lengthIn, content, recordAt};
-ghost use Rattle.sheet.specs.ReadAnswers.{isOk, contentAt, numberAt};
+ghost use Rattle.values.specs.Words.{field};
+ghost use Rattle.sheet.specs.Records.{headerSize, recordSize, lengthIn, content, recordAt};
+ghost use Rattle.sheet.specs.ReadAnswers.{isOk, contentAt, numberAt, InLayout};
 
 // Whether record k holds a literal of the type.
 pub fn literal_ok(s: &[u8], k: usize, column: PrimitiveType) -> bool
@@ -42,10 +43,22 @@ pub fn content_of<'a>(s: &'a [u8], k: usize) -> &'a [u8]
     &s[from..to]
 }
 
+// The first n bytes of record k's content.
+pub fn beginning_of<'a>(s: &'a [u8], k: usize, n: usize) -> &'a [u8]
+    requires { ⌜ recordSize * (k + 1) ≤ length (now s) ⌝ }
+    requires { ⌜ n ≤ contentSize ⌝ }
+    ensures { λ r. ⌜ now r ≡ field headerSize n (recordAt (now (s .entry)) k) ⌝ }
+{
+    let from = RECORD_SIZE * k + HEADER_SIZE;
+    let to = from + n;
+    &s[from..to]
+}
+
 // The number in record k, and 0 where the type has no numbers.
 pub fn number_of(s: &[u8], k: usize, column: PrimitiveType) -> i64
     requires { ⌜ recordSize * (k + 1) ≤ length (now s) ⌝ }
-    ensures { λ r. ⌜ r ≡ numberAt (layout column) (now (s .entry)) k ⌝ }
+    ensures is { λ r. ⌜ r ≡ numberAt (layout column) (now (s .entry)) k ⌝ }
+    ensures ranged { λ r. ⌜ InLayout (layout column) r ⌝ }
 {
     let at = RECORD_SIZE * k + HEADER_SIZE;
     match column {

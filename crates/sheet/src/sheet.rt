@@ -15,7 +15,9 @@ ghost use Rattle.expr.specs.Operators.{arity};
 ghost use Rattle.sheet.specs.Sheets as sheets;
 ghost use Rattle.sheet.specs.ReadAnswers.{takes, sheetResult, LiteralsRead};
 
-// The most literals of a sheet to be tested.
+// The most literals of a sheet to be projected, and of one to be tested.
+pub const PROJECT_LIMIT: usize = 64;
+
 pub const HOLDS_LIMIT: usize = 128;
 
 pub struct Sheet {
