@@ -23,32 +23,10 @@ use Rattle.values.proofs.datatypes.PrimitiveType.{the-type}
 use Rattle.expr.specs.Holds.{numberTests}
 use Rattle.expr.specs.Operators.{Arity}
 use Rattle.sheet.specs.ReadAnswers.{contentAt, numberAt}
-use Rattle.api.specs.HeldAnswers.{presentHeld, numberIn, NumberType}
+use Rattle.api.specs.HeldAnswers.{presentHeld}
+use Rattle.answers.specs.Contents.{numberIn, NumberType}
 use Rattle.sheet.specs.ReadAnswers.{Placed}
 use Rattle.api.specs.HeldLaws.{placed-numbers}
-
--- the types of `_`, beside String and Binary, are those of numbers
-abbrev numberTags : List ℕ
-numberTags = 0 ∷ 1 ∷ 2 ∷ 3 ∷ 4 ∷ 5 ∷ 6 ∷ 7 ∷ []
-
-pub number-type : (t : PrimitiveType) → OneOf numberTags (tagOf the-type t) → (n : ℕ) × NumberType t n
-number-type Int m = (4, record { is = refl; size = inl refl })
-number-type Long m = (8, record { is = refl; size = inr refl })
-number-type Date m = (4, record { is = refl; size = inl refl })
-number-type Time m = (8, record { is = refl; size = inr refl })
-number-type Timestamp m = (8, record { is = refl; size = inr refl })
-number-type Timestamptz m = (8, record { is = refl; size = inr refl })
-number-type TimestampNs m = (8, record { is = refl; size = inr refl })
-number-type TimestamptzNs m = (8, record { is = refl; size = inr refl })
-number-type String m = absurd (miss numberTags 8 tt m)
-number-type Binary m = absurd (miss numberTags 9 tt m)
-
-pub number-sized : (t : PrimitiveType) → OneOf numberTags (tagOf the-type t) → (k : ℕ) → fits (layout t) k ≡ true → NumberType t k
-number-sized t m k e = let q = number-type t m in rw (eqb-true k (q .0) (ap (λ l. fits l k) (sym (q .1 .is)) ∙ e)) (q .1)
-
--- bytes that are a number as a whole
-pub whole : (n : ℕ) (bs : List ℕ) → length bs ≡ n → signed n (word 0 n bs) ≡ signed (length bs) (leNumber bs)
-whole n bs e = rw (take-all n bs (omega arith), e)
 
 -- what is answered of the literals by their records and of the value by its number is answered of the contents
 pub number-given : {l : Layout} {s ns : List ℕ} {count : ℕ} (placed : Placed l s ns count) (a : Arity) (bs : List ℕ) {z : ℤ} {b : Bool}

@@ -8,7 +8,6 @@ use lib.IntN.{ℤ, pos, sucℤ}
 use lib.Signed.{_<ℤ_}
 use Rattle.values.specs.Outcomes.{ok}
 use Rattle.values.specs.Words.{signed, word}
-use Rattle.values.specs.WordLaws.{AllBytes}
 use Rattle.projection.specs.Lifting.{lifted}
 use Rattle.projection.specs.Steps.{some}
 use Rattle.projection.specs.declared.question.Question.{Question}
@@ -52,11 +51,11 @@ module _ (s : List ℕ) where
 
 -- "If that row has a partition value and meets the leaf, its partition value meets any inclusive predicate returned"
 abbrev pub NoRowLost : Type 0
-NoRowLost = (s q v p : List ℕ) → AllBytes s → RowOf s p v → Accepts s v → Returns Inclusive s q → Accepts q p
+NoRowLost = (s q v p : List ℕ) → RowOf s p v → Accepts s v → Returns Inclusive s q → Accepts q p
 
 -- "if its partition value meets a returned strict predicate, the row meets the leaf"
 abbrev pub StrictIsSafe : Type 0
-StrictIsSafe = (s q v p : List ℕ) → AllBytes s → RowOf s p v → Returns Strict s q → Accepts q p → Accepts s v
+StrictIsSafe = (s q v p : List ℕ) → RowOf s p v → Returns Strict s q → Accepts q p → Accepts s v
 
 -- ---- "For whole-number and time columns under the comparisons and sets 201 to 206, 301 and 302, take any partition value that some row has": here under
 -- every operator
@@ -67,7 +66,7 @@ Numeric s = typeIn s ≤ 8
 
 -- "A strict predicate returned accepts it exactly when all its rows meet the leaf"
 abbrev pub StrictIsExact : Type 0
-StrictIsExact = (s q v p : List ℕ) → AllBytes s → Numeric s → RowOf s p v → Returns Strict s q → Accepts q p ↔ AllRows s p
+StrictIsExact = (s q v p : List ℕ) → Numeric s → RowOf s p v → Returns Strict s q → Accepts q p ↔ AllRows s p
 
 -- the value record p holds the number z in four bytes, as the result types of what is lifted do
 abbrev pub Holds : List ℕ → ℤ → Type 0
@@ -83,7 +82,7 @@ OneAbove s p = (below : List ℕ) × (z : ℤ) × Holds below z × (z <ℤ pos 0
 
 -- "An inclusive one accepts it exactly when some row of it meets the leaf, or, for transforms that document 01 lifts, when it is one above .."
 abbrev pub InclusiveIsExact : Type 0
-InclusiveIsExact = (s q v p : List ℕ) → AllBytes s → Numeric s → RowOf s p v → Returns Inclusive s q
+InclusiveIsExact = (s q v p : List ℕ) → Numeric s → RowOf s p v → Returns Inclusive s q
     → Accepts q p ↔ (SomeRow s p ⊎ (Lifts s × OneAbove s p))
 
 pub record Demand3 : Type 0 where

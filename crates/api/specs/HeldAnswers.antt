@@ -16,14 +16,10 @@ use Rattle.values.specs.declared.error.ErrorKind.the-variants.{NotUtf8}
 use Rattle.expr.specs.Operators.{Arity, none, one, many}
 use Rattle.expr.specs.Holds.{Tests, numberTests, bytesTests, missingMeets, unaryMeets, binaryMeets, setMeets}
 use Rattle.sheet.specs.Records.{value}
-use Rattle.api.specs.HoldsTest.{byLayout}
-use Rattle.api.specs.Kinds.{mapRow}
+use Rattle.answers.specs.Contents.{allUtf8, row, rowUtf8, numberIn}
+use Rattle.answers.specs.Kinds.{byLayout, mapRow}
 use Rattle.api.specs.declared.holds.Held.{Held}
 use Rattle.api.specs.declared.holds.Held.the-variants.{Yes, No, Err}
-
-abbrev pub allUtf8 : List (List ℕ) → Bool
-allUtf8 [] = true
-allUtf8 (s ∷ ss) = utf8 s && allUtf8 ss
 
 -- a value against an operator's kind and literals, which for the other kinds are passed over
 abbrev pub presentHeld : {A : Type 0} → Tests A → Arity → List A → A → Bool
@@ -37,25 +33,6 @@ held by a ls missing = missingMeets a
 held by a ls (present v) = presentHeld by a ls v
 
 -- ---- a row's value and the literals, as contents of records
-
--- the value that a flag and bytes say, which count where it is present
-abbrev pub row : {A : Type 0} → Bool → A → Row A
-row true v = present v
-row false v = missing
-
-abbrev pub rowUtf8 : Row (List ℕ) → Bool
-rowUtf8 missing = true
-rowUtf8 (present v) = utf8 v
-
--- the number that a content is, of a layout with numbers
-abbrev pub numberIn : Layout → List ℕ → ℤ
-numberIn (number n) bs = signed n (leNumber bs)
-numberIn (bytes n) bs = pos 0
-
--- a type of numbers of n bytes
-pub record NumberType (column : PrimitiveType) (n : ℕ) : Type 0 where
-  pub is : layout column ≡ number n
-  pub size : (n ≡ 4) ⊎ (n ≡ 8)
 
 abbrev pub numbersHeld : Layout → Arity → List (List ℕ) → Row (List ℕ) → Bool
 numbersHeld l a ls r = held numberTests a (map (numberIn l) ls) (mapRow (numberIn l) r)

@@ -27,11 +27,15 @@ use Rattle.sheet.specs.Records.{lengthIn, recordAt, value}
 use Rattle.sheet.specs.RefusalLaws.{Only, OnlyMalformed, only-ok, only-bind, only-need, value-only, sheet-only}
 use Rattle.sheet.specs.Sheets.{Sheet, sheet, holdsLimit}
 use Rattle.sheet.specs.Values.{readNumber, readBytes, eachLiteral, readRow}
-use Rattle.api.specs.HeldAnswers.{allUtf8, held, rowUtf8, numberIn, numbersHeld, bytesHeld}
+use Rattle.api.specs.HeldAnswers.{held, numbersHeld, bytesHeld}
+use Rattle.answers.specs.Contents.{numberIn}
+use Rattle.answers.specs.Contents.{allUtf8, rowUtf8}
 use Rattle.sheet.specs.ReadAnswers.{Placed}
 use Rattle.api.specs.HeldAnswers.{heldOf, heldAs, heldCode}
-use Rattle.api.specs.Kinds.{mapRow}
-use Rattle.api.specs.HoldsTest.{byLayout, tested, testedSheet, holdsTest, heldNumber}
+use Rattle.answers.specs.Kinds.{mapRow, mapLiterals}
+use Rattle.answers.specs.ReadLaws.{map-operator, map-literals, number-literals, number-row, then-need, bytes-literals, bytes-row}
+use Rattle.api.specs.HoldsTest.{tested, testedSheet, holdsTest, heldNumber}
+use Rattle.answers.specs.Kinds.{byLayout}
 
 -- ---- a predicate by its operator and its literals
 module _ {A : Type 0} (by : Tests A) where
@@ -40,77 +44,6 @@ module _ {A : Type 0} (by : Tests A) where
   holds-held (unary o) (present v) = rw (arity-of (none o))
   holds-held (test (binary o l)) (present v) = rw (arity-of (one o))
   holds-held (test (set o ls)) (present v) = rw (arity-of (many o))
-
--- ---- reading that never refuses: numbers
-module _ {A B : Type 0} (f : A → B) where
-  each-read : (xs : List A) → each (λ x. ok (f x)) xs ≡ ok (map f xs)
-  each-read [] = refl
-  each-read (x ∷ xs) = rw (each-read xs)
-
-  literals-read : (leaf : Predicate A)
-      → (l : Predicate B) × (eachLiteral (λ x. ok (f x)) leaf ≡ ok l) × (operatorIn l ≡ operatorIn leaf) × (literalsIn l ≡ map f (literalsIn leaf))
-  literals-read (unary o) = (unary o, refl, refl, refl)
-  literals-read (test (binary o l)) = (test (binary o (f l)), refl, refl, refl)
-  literals-read (test (set o ls)) = (test (set o (map f ls)), rw (each-read ls), refl, refl)
-
-  row-read : (r : Row A) → readRow (λ x. ok (f x)) r ≡ ok (mapRow f r)
-  row-read missing = refl
-  row-read (present v) = refl
-
-number-literals : (n : ℕ) (leaf : Predicate (List ℕ))
-    → (l : Predicate ℤ) × (eachLiteral (readNumber n) leaf ≡ ok l) × (operatorIn l ≡ operatorIn leaf)
-    × (literalsIn l ≡ map (λ bs. signed n (leNumber bs)) (literalsIn leaf))
-number-literals n leaf = literals-read (λ bs. signed n (leNumber bs)) leaf
-
-number-row : (n : ℕ) (r : Row (List ℕ)) → readRow (readNumber n) r ≡ ok (mapRow (λ bs. signed n (leNumber bs)) r)
-number-row n r = row-read (λ bs. signed n (leNumber bs)) r
-
--- ---- reading that refuses what fails a test: byte strings
-module _ {A : Type 0} (e : ErrorKind) where
-  then-ok : {B : Type 0} (a : Bool) (x : A) (f : A → B) → ((need a e >> ok x) >>= λ y. ok (f y)) ≡ (need a e >> ok (f x))
-  then-ok true x f = refl
-  then-ok false x f = refl
-
-  then-need : {B C : Type 0} (a b : Bool) (x : A) (y : B) (f : A → B → C)
-      → ((need a e >> ok x) >>= λ u. (need b e >> ok y) >>= λ v. ok (f u v)) ≡ (need a e >> (need b e >> ok (f x y)))
-  then-need true true x y f = refl
-  then-need true false x y f = refl
-  then-need false b x y f = refl
-
--- s says whether UTF-8 is asked for
-both-asked : (s a b : Bool) {X : Type 0} (r : Res X)
-    → (need (not s || a) NotUtf8 >> (need (not s || b) NotUtf8 >> r)) ≡ (need (not s || (a && b)) NotUtf8 >> r)
-both-asked true true b r = refl
-both-asked true false b r = refl
-both-asked false a b r = refl
-
-module _ (s : Bool) where
-  abbrev asked : List ℕ → Res (List ℕ)
-  asked bs = do
-    need (not s || utf8 bs) NotUtf8
-    ok bs
-
-  each-asked : (ls : List (List ℕ)) → each asked ls ≡ (need (not s || allUtf8 ls) NotUtf8 >> ok ls)
-  each-asked [] = rw (or-true (not s))
-  each-asked (l ∷ ls) =
-      rw (each-asked ls) (then-need NotUtf8 (not s || utf8 l) (not s || allUtf8 ls) l ls _∷_) ∙ both-asked s (utf8 l) (allUtf8 ls) (ok (l ∷ ls))
-
-  literals-asked : (leaf : Predicate (List ℕ)) → eachLiteral asked leaf ≡ (need (not s || allUtf8 (literalsIn leaf)) NotUtf8 >> ok leaf)
-  literals-asked (unary o) = rw (or-true (not s))
-  literals-asked (test (binary o l)) = rw (and-true (utf8 l)) (then-ok NotUtf8 (not s || utf8 l) l (λ x. test (binary o x)))
-  literals-asked (test (set o ls)) = rw (each-asked ls) (then-ok NotUtf8 (not s || allUtf8 ls) ls (λ xs. test (set o xs)))
-
-  row-asked : (r : Row (List ℕ)) → readRow asked r ≡ (need (not s || rowUtf8 r) NotUtf8 >> ok r)
-  row-asked missing = rw (or-true (not s))
-  row-asked (present v) = then-ok NotUtf8 (not s || utf8 v) v present
-
-module _ (column : PrimitiveType) where
-  bytes-literals : (leaf : Predicate (List ℕ))
-      → eachLiteral (readBytes column) leaf ≡ (need (not (sameType column String) || allUtf8 (literalsIn leaf)) NotUtf8 >> ok leaf)
-  bytes-literals leaf = literals-asked (sameType column String) leaf
-
-  bytes-row : (r : Row (List ℕ)) → readRow (readBytes column) r ≡ (need (not (sameType column String) || rowUtf8 r) NotUtf8 >> ok r)
-  bytes-row r = row-asked (sameType column String) r
 
 -- ---- a sheet's leaf against a row
 module _ (leaf : Predicate (List ℕ)) (r : Row (List ℕ)) where
@@ -122,8 +55,9 @@ module _ (leaf : Predicate (List ℕ)) (r : Row (List ℕ)) where
 
   numbers-tested : (n : ℕ) → tested numberTests (readNumber n) leaf r ≡ ok (numbersHeld (number n) a ls r)
   numbers-tested n =
-      let q = number-literals n leaf in
-      rw (q .1, number-row n r) (ap ok (holds-held numberTests (q .0) (mapRow (numberIn (number n)) r) ∙ rw (q .2, q .3)))
+      let f : List ℕ → ℤ = λ bs. signed n (leNumber bs) in
+      rw (number-literals n leaf, number-row n r)
+      (ap ok (holds-held numberTests (mapLiterals f leaf) (mapRow f r) ∙ rw (map-operator f leaf, map-literals f leaf)))
 
   bytes-tested : (column : PrimitiveType) → tested bytesTests (readBytes column) leaf r ≡ bytesHeld column a ls r
   bytes-tested column =

@@ -3,9 +3,10 @@ use Prim.Native.Nat.{ℕ}
 use mathlib.Core.Bool.{Bool, true, false}
 use mathlib.Core.List.{List}
 use Rattle.values.specs.Outcomes.{Res, ok, err, errorNumber, _>>=_, Row}
-use Rattle.values.specs.Types.{Layout, number, bytes, layout}
+use Rattle.values.specs.Types.{layout}
 use Rattle.expr.specs.Predicates.{Predicate}
 use Rattle.expr.specs.Holds.{Tests, numberTests, bytesTests, holds}
+use Rattle.answers.specs.Kinds.{byLayout}
 use Rattle.sheet.specs.Records.{value}
 use Rattle.sheet.specs.Sheets.{Sheet, sheet, holdsLimit}
 use Rattle.sheet.specs.Values.{readNumber, readBytes, eachLiteral, readRow}
@@ -16,10 +17,6 @@ tested by read leaf row = do
   l ← eachLiteral read leaf
   r ← readRow read row
   ok (holds by l r)
-
-abbrev pub byLayout : {X : Type 0} → Layout → (ℕ → X) → X → X
-byLayout (number n) f g = f n
-byLayout (bytes n) f g = g
 
 unfoldable pub testedSheet : Sheet → Row (List ℕ) → Res Bool
 testedSheet x row =

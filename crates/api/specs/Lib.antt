@@ -1,7 +1,7 @@
--- The definitions of `api`, and then the laws about them.
+-- The definitions of `api`, demand 3 and its witnesses, and then the laws about them.
 pub mod HoldsTest
-pub mod Kinds
 pub mod Routines
 pub mod Demand3
+pub mod Witnesses
 pub mod HeldAnswers
 pub mod HeldLaws

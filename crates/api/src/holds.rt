@@ -1,4 +1,7 @@
 // The holds-test: whether a value meets a sheet's leaf.
+use answers::content::literals_utf8;
+use answers::content::number_in;
+use answers::content::value_utf8;
 use expr::operator::PredicateOperator;
 use expr::test::bytes_meets;
 use expr::test::number_meets;
@@ -13,9 +16,6 @@ use values::datatypes::PrimitiveType;
 use values::error::ErrorKind;
 use values::order::Ordering;
 use values::order::compare_bytes;
-use values::utf8::is_utf8;
-use values::words::i32_at;
-use values::words::i64_at;
 ghost use mathlib.Core.Path.{_≡_};
 ghost use mathlib.Core.Bool.{true};
 ghost use mathlib.Core.Logic.{_⊎_};
@@ -29,7 +29,9 @@ ghost use Rattle.values.specs.declared.datatypes.PrimitiveType.the-variants.{St
 ghost use Rattle.expr.specs.Operators.{arity};
 ghost use Rattle.expr.specs.Holds.{numberTests, bytesTests, missingMeets};
 ghost use Rattle.api.specs.HoldsTest.{holdsTest};
-ghost use Rattle.api.specs.HeldAnswers.{allUtf8, presentHeld, held, row, rowUtf8, NumberType, numbersHeld, bytesHeld};
+ghost use Rattle.api.specs.HeldAnswers.{presentHeld, held, numbersHeld, bytesHeld};
+ghost use Rattle.answers.specs.Contents.{NumberType};
+ghost use Rattle.answers.specs.Contents.{allUtf8, row, rowUtf8};
 ghost use Rattle.sheet.specs.ReadAnswers.{Placed, contentsAt, numbersAt};
 ghost use Rattle.api.specs.HeldAnswers.{heldOf, valueHeld, heldAs, heldCode};
 
@@ -83,22 +85,6 @@ fn bytes_among(s: &[u8], numbers: &[u16], count: usize, column: PrimitiveType, v
         i += 1;
     }
     false
-}
-
-// Whether all those literals are UTF-8.
-fn literals_utf8(s: &[u8], numbers: &[u16], count: usize, column: PrimitiveType) -> bool
-    requires { ⌜ Placed (layout column) (now s) (now numbers) count ⌝ }
-    ensures { λ r. ⌜ r ≡ allUtf8 (contentsAt (now (s .entry)) (now (numbers .entry)) count) ⌝ }
-{
-    let mut i = 0;
-    while i < count {
-        let k = numbers[i] as usize;
-        if !is_utf8(content_of(s, k)) {
-            return false;
-        }
-        i += 1;
-    }
-    true
 }
 
 // Whether a missing value meets an operator, whatever its literals.
@@ -170,18 +156,6 @@ fn bytes_holds(
     }
 }
 
-// The number that a value's bytes are.
-fn number_in(value: &[u8]) -> i64
-    requires { ⌜ (length (now value) ≡ 4) ⊎ (length (now value) ≡ 8) ⌝ }
-    ensures { λ r. ⌜ r ≡ signed (length (now (value .entry))) (leNumber (now (value .entry))) ⌝ }
-{
-    if value.len() == 4 {
-        i32_at(value, 0) as i64
-    } else {
-        i64_at(value, 0)
-    }
-}
-
 // A test that was made, as the answer.
 fn answered(yes: bool) -> Held
     ensures { λ r. ⌜ r ≡ heldAs (ok yes) ⌝ }
@@ -228,13 +202,6 @@ fn test_bytes(
     } else {
         answered(missing_holds(operator))
     }
-}
-
-// Whether a value is UTF-8, where it is present.
-fn value_utf8(present: bool, value: &[u8]) -> bool
-    ensures { λ r. ⌜ r ≡ rowUtf8 (row present (now (value .entry))) ⌝ }
-{
-    if present { is_utf8(value) } else { true }
 }
 
 // The same for a String, whose literals are to be UTF-8, and then its value.

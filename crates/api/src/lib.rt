@@ -1,3 +1,2 @@
 // The routines over bytes.
-pub mod answer;
 pub mod holds;

@@ -5,3 +5,16 @@ pub mod Lifting
 pub mod ByteSteps
 pub mod Projection
 pub mod Demand
+pub mod Answers
+pub mod BoundaryLaws
+pub mod RowLaws
+pub mod StepLaws
+pub mod LiftingLaws
+pub mod NumberLaws
+pub mod ProjectionLaws
+pub mod NumberRowLaws
+pub mod ByteLaws
+pub mod SoundLaws
+pub mod DemandLaws
+pub mod LiteralLaws
+pub mod LandingLaws

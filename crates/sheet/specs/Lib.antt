@@ -2,13 +2,10 @@
 pub mod Records
 pub mod Sheets
 pub mod Values
-pub mod Written
 pub mod ReadAnswers
 pub mod RecordLaws
 pub mod SheetLaws
-pub mod WrittenLaws
 pub mod RefusalLaws
-pub mod WriteLaws
 pub mod PartLaws
 pub mod WalkLaws
 pub mod StepLaws

@@ -1,8 +1,7 @@
-// Sheets and value records: read where they lie, and written into a lent buffer.
+// Sheets and value records, read where they lie.
 pub mod chain;
 pub mod head;
 pub mod literal;
 pub mod records;
 pub mod sheet;
 pub mod value;
-pub mod write;

@@ -16,3 +16,4 @@ pub mod CountLaws
 pub mod GregorianLaws
 pub mod CalendarLaws
 pub mod PartitionLaws
+pub mod BytesPartitionLaws

@@ -1,23 +1,19 @@
--- What the transforms promise to the crates above: of numbers, that the order is kept, that only numbers of the column's type have a value, and that
--- the value is of the result type; of byte strings, that the value is a beginning. Assumes nothing.
+-- What the transforms of numbers promise to the crates above: the order is kept, only numbers of the column's type have a value, and the value is of
+-- the result type. `BytesPartitionLaws` has those of strings and binaries. Assumes nothing.
 use Prim.Native.Nat.{ℕ, _*_, _≤_, _<_}
 use native.Mathlib.Omega.{arith}
-use mathlib.Core.Bool.{true, true≢false}
-use mathlib.Core.List.{List}
+use mathlib.Core.Bool.{true, false, true≢false}
 use mathlib.Core.Path.{_≡_, refl, sym, ap, subst, _∙_}
 use lib.Dec.{ltb, leb}
-use lib.ListN.{length, take}
-use lib.Seq.{take-length}
 use lib.IntN.{ℤ, pos, sucℤ}
 use lib.Signed.{_≤ℤ_, _<ℤ_}
 use mir.Syntax.{w32, w64}
 use mir.Val.{SFits}
 use Rattle.values.specs.Outcomes.{Res, ok, err, need, _>>=_, _>>_, Row, missing, present}
-use Rattle.values.specs.OutcomeLaws.{ok-inj, present-inj, ok-not-err, missing-not-present, passing, passed, gone}
+use Rattle.values.specs.OutcomeLaws.{ok-inj, present-inj, ok-not-err, missing-not-present, passing, failing, passed, gone}
 use Rattle.values.specs.IntLaws.{ints, neg}
 use Rattle.values.specs.RangeLaws.{in-type, in-int, in-type-long, next-in-type, four}
 use Rattle.values.specs.Types.{inType}
-use Rattle.values.specs.Utf8.{utf8}
 use Rattle.values.specs.declared.error.ErrorKind.the-variants.{NoResultType, DataInvalid, FeatureUnsupported, Overflow}
 use Rattle.values.specs.declared.datatypes.PrimitiveType.{PrimitiveType}
 use Rattle.values.specs.declared.datatypes.PrimitiveType.the-variants.{Int, Long, Date, Time, Timestamp, Timestamptz, TimestampNs, TimestamptzNs, String, Binary}
@@ -28,11 +24,10 @@ use Rattle.transform.specs.FloorLaws.{floor-mono, floor-one, day-fits}
 use Rattle.transform.specs.Calendar.{inCalendar, yearOf, monthOf}
 use Rattle.transform.specs.CalendarLaws.{yearOf-mono, monthOf-mono, yearOf-range, monthOf-range}
 use Rattle.transform.specs.Temporal.{unitOf, hoursPerDay, microsPerHour, nanosPerHour, perDay, perHour, dayOf, hourOf}
-use Rattle.transform.specs.Truncate.{truncated, firstCodePoints, widest}
+use Rattle.transform.specs.Truncate.{truncated, widest}
 use Rattle.transform.specs.TruncateLaws.{truncated-mono}
-use Rattle.transform.specs.StringLaws.{first-take, first-utf8}
 use Rattle.transform.specs.ResultType.{truncates, truncateType, resultType}
-use Rattle.transform.specs.Partition.{truncateNumber, byCalendar, outsideCalendar, dayNumber, intHour, hourNumber, byTransform, transformNumber, truncateBytes, transformBytes}
+use Rattle.transform.specs.Partition.{truncateNumber, byCalendar, outsideCalendar, dayNumber, intHour, hourNumber, byTransform, transformNumber}
 use Rattle.transform.specs.declared.temporal.TimeUnit.{TimeUnit}
 use Rattle.transform.specs.declared.temporal.TimeUnit.the-variants as time-unit
 
@@ -139,6 +134,11 @@ module _ (ty : PrimitiveType) (tr : Transform) (v : ℤ) {r : Row ℤ} (e : tran
   unfolding transformNumber
   by = passed (inType ty v) Overflow _ e .1
 
+-- and every other number is 8
+pub number-outside : (ty : PrimitiveType) (tr : Transform) (v : ℤ) → inType ty v ≡ false → transformNumber ty tr v ≡ err Overflow
+unfolding transformNumber
+number-outside ty tr v h = failing Overflow (byTransform ty tr v) h
+
 pub number-mono : (ty : PrimitiveType) (tr : Transform) (v w : ℤ) {p q : ℤ} → transformNumber ty tr v ≡ ok (present p) → transformNumber ty tr w ≡ ok (present q) → v ≤ℤ w → p ≤ℤ q
 number-mono ty tr v w {p} {q} a b h = by-mono ty v w p q tr (by ty tr v a) (by ty tr w b) h
 
@@ -198,6 +198,18 @@ by-lands ty to Hour v p r h e = rw (← counted-to (perHour (unitOf ty)) Int r) 
 by-lands ty to Void v p r h e = missing-not-present (ok-inj e)
 by-lands ty to Unknown v p r h e = ok-not-err e
 
+-- only a String has values that are Strings
+pub string-result : (tr : Transform) (ty : PrimitiveType) → resultType tr ty ≡ ok String → ty ≡ String
+unfolding resultType
+string-result Identity ty r = ok-inj r
+string-result (Truncate width) ty r = ok-inj (passed (truncates ty) NoResultType _ r .1)
+string-result Year ty r = absurd (true≢false (cc (counted-to (perDay (unitOf ty)) Int r)))
+string-result Month ty r = absurd (true≢false (cc (counted-to (perDay (unitOf ty)) Int r)))
+string-result Day ty r = absurd (true≢false (cc (counted-to (perDay (unitOf ty)) Date r)))
+string-result Hour ty r = absurd (true≢false (cc (counted-to (perHour (unitOf ty)) Int r)))
+string-result Void ty r = ok-inj r
+string-result Unknown ty r = ok-inj r
+
 module _ (ty to : PrimitiveType) (tr : Transform) (v p : ℤ) (r : resultType tr ty ≡ ok to) (e : transformNumber ty tr v ≡ ok (present p)) where
   pub number-lands : inType to p ≡ true
   number-lands = by-lands ty to tr v p r (number-starts ty tr v e) (by ty tr v e)
@@ -229,44 +241,3 @@ by-missing ty Unknown v e = ok-not-err e
 
 pub number-missing : (ty : PrimitiveType) (tr : Transform) (v : ℤ) → transformNumber ty tr v ≡ ok missing → tr ≡ Void
 number-missing ty tr v e = by-missing ty tr v (by ty tr v e)
-
--- ---- strings and binaries
-
--- a value is the beginning of what it is made of, and UTF-8 where that is
-pub record Begins (s t : List ℕ) : Type 0 where
-  pub beginning : t ≡ take (length t) s
-  pub string : utf8 s ≡ true → utf8 t ≡ true
-
-whole : (s : List ℕ) → Begins s s
-whole s = record { beginning = sym (take-length s); string = λ h. h }
-
-bytes-by : {s t : List ℕ} → ok (present s) ≡ ok (present t) → s ≡ t
-bytes-by e = present-inj (ok-inj e)
-
-cut-begins : (ty : PrimitiveType) (width : ℕ) (s t : List ℕ) → truncateBytes ty width s ≡ ok (present t) → Begins s t
-cut-begins Int width s t e = ok-not-err e
-cut-begins Long width s t e = ok-not-err e
-cut-begins Date width s t e = ok-not-err e
-cut-begins Time width s t e = ok-not-err e
-cut-begins Timestamp width s t e = ok-not-err e
-cut-begins Timestamptz width s t e = ok-not-err e
-cut-begins TimestampNs width s t e = ok-not-err e
-cut-begins TimestamptzNs width s t e = ok-not-err e
-cut-begins String width s t e = subst (Begins s) (bytes-by e) (record { beginning = first-take width s; string = first-utf8 width s })
-cut-begins Binary width s t e = ok-not-err e
-
-pub bytes-begin : (ty : PrimitiveType) (tr : Transform) (s t : List ℕ) → transformBytes ty tr s ≡ ok (present t) → Begins s t
-unfolding transformBytes
-bytes-begin ty Identity s t e = subst (Begins s) (bytes-by e) (whole s)
-bytes-begin ty (Truncate width) s t e = cut-begins ty width s t e
-bytes-begin ty Year s t e = ok-not-err e
-bytes-begin ty Month s t e = ok-not-err e
-bytes-begin ty Day s t e = ok-not-err e
-bytes-begin ty Hour s t e = ok-not-err e
-bytes-begin ty Void s t e = missing-not-present (ok-inj e)
-bytes-begin ty Unknown s t e = ok-not-err e
-
--- Truncate of a String is its first code points
-pub string-truncates : (width : ℕ) (s : List ℕ) → transformBytes String (Truncate width) s ≡ ok (present (firstCodePoints width s))
-unfolding transformBytes
-string-truncates width s = refl

@@ -16,7 +16,7 @@ use Rattle.values.specs.declared.order.Ordering.{Ordering}
 use Rattle.values.specs.declared.order.Ordering.the-variants.{Less, Equal, Greater}
 use Rattle.values.proofs.order.Ordering.{the-type}
 use Rattle.sheet.specs.ReadAnswers.{contentAt}
-use Rattle.api.proofs.Turns.{for-member, found-here, not-here, nowhere}
+use Rattle.answers.proofs.Turns.{for-member, found-here, not-here, nowhere}
 use Rattle.api.proofs.holds.bytes_among.Statement.{statement}
 use Rattle.api.proofs.holds.bytes_among.Tie as tie
 

@@ -14,7 +14,7 @@ use Rattle.values.specs.IntLaws.{back, ok}
 use Rattle.values.specs.Order.{compareNumbers}
 use Rattle.values.specs.Types.{layout}
 use Rattle.sheet.specs.ReadAnswers.{numberAt}
-use Rattle.api.proofs.Turns.{for-member, found-here, not-here, nowhere, equal-here, other-here}
+use Rattle.answers.proofs.Turns.{for-member, found-here, not-here, nowhere, equal-here, other-here}
 use Rattle.api.proofs.holds.number_among.Statement.{statement}
 use Rattle.api.proofs.holds.number_among.Tie as tie
 
@@ -50,7 +50,7 @@ returns c =
     (l .loop .inv .1)
     (t .loop-test .taken)
     (start .pre .room)
-    (equal-here (start .fits .v) (ok _ (n .ok)) (n .ensures) (c .if1 .taken)))
+    (equal-here (start .fits .v) (ok _ (n .ok)) (n .ensures .0) (c .if1 .taken)))
 
 loop-again : tie.Need-loop-again Inv-loop μ-loop
 loop-again c =
@@ -68,7 +68,7 @@ loop-again c =
           (l .loop .inv .1)
           (t .loop-test .taken)
           (start .pre .room)
-          (other-here (start .fits .v) (ok _ (n .ok)) (n .ensures) (c .if1 .left)),
+          (other-here (start .fits .v) (ok _ (n .ok)) (n .ensures .0) (c .if1 .left)),
     )
 
 returns-2 : tie.Need-returns-2 Inv-loop μ-loop

@@ -58,7 +58,7 @@ returns-8 c =
     (a .v)
     (c .before .before .before .if1 .left)
     (start .pre .room)
-    (c .number-meets .ensures ∙ rw (back (start .fits .v), back (ok _ (c .before .number-of .ok)), c .before .number-of .ensures))
+    (c .number-meets .ensures ∙ rw (back (start .fits .v), back (ok _ (c .before .number-of .ok)), c .before .number-of .ensures .0))
 
 pub number-holds-spec : {M : Type 1} → statement M
 number-holds-spec =

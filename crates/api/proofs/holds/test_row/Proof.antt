@@ -1,6 +1,6 @@
 -- `api::holds::test_row` meets its contract: each arm answers for its type, and `_` for the types of numbers. Assumes nothing.
 use Rattle.api.specs.HeldAnswers.{heldOf}
-use Rattle.api.proofs.Rows.{number-type, number-sized}
+use Rattle.answers.proofs.Types.{number-type, number-sized}
 use borrow.Author.Needs.{needs}
 use Rattle.api.proofs.holds.test_row.Statement.{statement}
 use Rattle.api.proofs.holds.test_row.Tie as tie

@@ -1,0 +1,56 @@
+-- The two kinds of values that columns have, numbers and byte strings: how they are read and written, transformed and projected. Assumes nothing.
+use Prim.Native.Nat.{ℕ}
+use mathlib.Core.List.{List, map}
+use lib.IntN.{ℤ}
+use Rattle.values.specs.Outcomes.{Res, Row, missing, present}
+use Rattle.values.specs.Types.{Layout, number, bytes, layout}
+use Rattle.values.specs.declared.datatypes.PrimitiveType.{PrimitiveType}
+use Rattle.values.specs.declared.transform.Transform.{Transform}
+use Rattle.transform.specs.Partition.{numberPartition, bytesPartition}
+use Rattle.expr.specs.Predicates.{Predicate, unary, test, binary, set}
+use Rattle.projection.specs.Projection.{projectNumbers, projectBytes}
+use Rattle.projection.specs.Steps.{Projected}
+use Rattle.projection.specs.declared.question.Question.{Question}
+use Rattle.sheet.specs.Values.{readNumber, readBytes}
+use Rattle.write.specs.Written.{numberBytes}
+
+-- a column's values are of kind A, its partition values of kind B; `write` gives the content of a partition value of the result type
+pub record Kind (A B : Type 0) : Type 0 where
+  pub read : List ℕ → Res A
+  pub partition : Row A → Res (Row B)
+  pub project : Question → Predicate A → Res (Projected (Predicate B))
+  pub write : PrimitiveType → B → List ℕ
+
+module _ (column : PrimitiveType) (transform : Transform) where
+  -- numbers of n bytes
+  abbrev pub numbers : ℕ → Kind ℤ ℤ
+  numbers n = record {
+    read = readNumber n;
+    partition = numberPartition column transform;
+    project = λ question leaf. projectNumbers question column transform leaf;
+    write = λ to z. numberBytes (layout to) z;
+  }
+
+  abbrev pub byteStrings : Kind (List ℕ) (List ℕ)
+  byteStrings = record {
+    read = readBytes column;
+    partition = bytesPartition column transform;
+    project = λ question leaf. projectBytes question column transform leaf;
+    write = λ to s. s;
+  }
+
+-- the kind of a layout
+abbrev pub byLayout : {X : Type 0} → Layout → (ℕ → X) → X → X
+byLayout (number n) f g = f n
+byLayout (bytes n) f g = g
+
+-- ---- each value of a row or a predicate
+
+abbrev pub mapRow : {A B : Type 0} → (A → B) → Row A → Row B
+mapRow f missing = missing
+mapRow f (present v) = present (f v)
+
+abbrev pub mapLiterals : {A B : Type 0} → (A → B) → Predicate A → Predicate B
+mapLiterals f (unary o) = unary o
+mapLiterals f (test (binary o l)) = test (binary o (f l))
+mapLiterals f (test (set o ls)) = test (set o (map f ls))

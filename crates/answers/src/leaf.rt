@@ -1,0 +1,15 @@
+// A leaf to be projected.
+use expr::operator::PredicateOperator;
+use projection::question::Question;
+use values::datatypes::PrimitiveType;
+use values::transform::Transform;
+
+// What the head says, how many literals there are, what is asked, and the type of the partition values.
+pub struct Leaf {
+    pub question: Question,
+    pub operator: PredicateOperator,
+    pub column: PrimitiveType,
+    pub transform: Transform,
+    pub count: usize,
+    pub to: PrimitiveType,
+}

@@ -1,0 +1,4 @@
+// What a leaf and a row are answered: the steps, and their result written into a lent buffer.
+pub mod answer;
+pub mod content;
+pub mod leaf;

@@ -1,0 +1,4 @@
+-- Lemmas that several proofs of this crate share.
+pub mod Others
+pub mod NumberArms
+pub mod BytesArms

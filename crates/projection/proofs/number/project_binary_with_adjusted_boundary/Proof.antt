@@ -1,0 +1,25 @@
+-- `projection::number::project_binary_with_adjusted_boundary` meets its contract. Assumes nothing.
+use Rattle.projection.proofs.NumberArms.{leaves}
+use borrow.Author.Needs.{needs}
+use Rattle.projection.proofs.number.project_binary_with_adjusted_boundary.Statement.{
+  statement,
+}
+use Rattle.projection.proofs.number.project_binary_with_adjusted_boundary.Tie as tie
+
+pub project-binary-with-adjusted-boundary-spec : {M : Type 1} → statement M
+project-binary-with-adjusted-boundary-spec =
+    tie.close
+    (tie.spec
+    (search needs)
+    (search needs)
+    (search needs)
+    (search needs)
+    (search needs)
+    (search needs)
+    (search needs)
+    (search needs)
+    (λ c. search leaves)
+    (λ c. search leaves)
+    (λ c. search leaves)
+    (λ c. search leaves)
+    (λ c. search leaves))

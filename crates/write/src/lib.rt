@@ -1,0 +1,3 @@
+// Sheets and value records, written into a lent buffer.
+pub mod answer;
+pub mod write;
