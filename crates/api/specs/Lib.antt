@@ -2,6 +2,7 @@
 pub mod HoldsTest
 pub mod Routines
 pub mod Demand3
+pub mod Requests
 pub mod Witnesses
 pub mod HeldAnswers
 pub mod HeldLaws

@@ -1,17 +1,15 @@
 -- Demand 3 is about something: for each of its clauses a sheet, a row, its partition value and an answer sheet that meet what the clause asks.
 -- Assumes nothing.
-use Prim.Native.Nat.{ℕ, _-_}
+use Prim.Native.Nat.{ℕ}
 use native.Mathlib.Omega.{arith}
-use mathlib.Core.List.{List, [], _∷_, _++_}
+use mathlib.Core.List.{List, [], _∷_}
 use mathlib.Core.Path.{_≡_, refl}
 use lib.IntN.{ℤ, pos, negsuc}
-use lib.ListN.{replicate}
 use Rattle.values.specs.IntLaws.{lt-true}
 use Rattle.values.specs.Order.{compareNumbers}
-use Rattle.values.specs.Outcomes.{present}
 use Rattle.values.specs.Transforms.{transformOf}
 use Rattle.values.specs.Types.{inType}
-use Rattle.values.specs.Words.{leBytes, signedBytes}
+use Rattle.values.specs.Words.{signedBytes}
 use Rattle.values.specs.declared.datatypes.PrimitiveType.the-variants.{Int, Date}
 use Rattle.values.specs.declared.transform.Transform.the-variants.{Year}
 use Rattle.transform.specs.Calendar.{inCalendar, shift, civilYear, yearOf}
@@ -26,25 +24,20 @@ use Rattle.expr.specs.Operators.{atMost, less, within}
 use Rattle.expr.specs.Predicates.{test, binary, set}
 use Rattle.projection.specs.Projection.{projectNumbers}
 use Rattle.projection.specs.declared.question.Question.the-variants.{Inclusive, Strict}
-use Rattle.sheet.specs.Records.{recordSize, content, value}
+use Rattle.sheet.specs.Records.{content, value}
 use Rattle.sheet.specs.Sheets.{head, sheet}
-use Rattle.write.specs.Written.{nextTo, literalRecords, valueRecord, answerSheet}
+use Rattle.write.specs.Written.{answerSheet}
 use Rattle.api.specs.HoldsTest.{testedSheet, holdsTest}
 use Rattle.answers.specs.Answers.{projectedLeaf, transformedRow}
+use Rattle.api.specs.Requests.{sheetOf, valueOf}
 use Rattle.api.specs.Routines.{projectSheet, transformValue}
 use Rattle.api.specs.Demand3.{Returns, Accepts, RowOf, Numeric, Lifts, OneAbove}
-
--- ---- sheets and value records by what they say
-abbrev sheetOf : ℕ → ℕ → ℕ → ℕ → List (List ℕ) → List ℕ
-sheetOf operator type transform width literals =
-    leBytes 2 (nextTo 1 literals) ++ leBytes 2 operator ++ leBytes 1 type ++ leBytes 1 transform ++ leBytes 2 0 ++ leBytes 4 width
-    ++ replicate (recordSize - 12) 0 ++ literalRecords 1 literals
 
 abbrev int : ℤ → List ℕ
 int z = signedBytes 4 z
 
-abbrev valueOf : ℤ → List ℕ
-valueOf z = valueRecord (present (int z))
+abbrev intValue : ℤ → List ℕ
+intValue z = valueOf (int z)
 
 -- ---- an Int under Truncate 10: the leaf < 300, the row 5 and its partition value 0, and the predicates ≤ 290 and < 300
 abbrev below300 : List ℕ
@@ -57,10 +50,10 @@ abbrev less300 : List ℕ
 less300 = answerSheet Int (test (binary less (int (pos 300))))
 
 abbrev five : List ℕ
-five = valueOf (pos 5)
+five = intValue (pos 5)
 
 abbrev nought : List ℕ
-nought = valueOf (pos 0)
+nought = intValue (pos 0)
 
 row-of-nought : RowOf below300 nought five
 unfolding transformValue head transformOf value content transformedRow resultType checked numberPartition partition transformNumber inType truncated floorMod
@@ -97,7 +90,7 @@ abbrev bothYears : List ℕ
 bothYears = answerSheet Int (test (set within (int (negsuc 0) ∷ int (pos 0) ∷ [])))
 
 abbrev minusOne : List ℕ
-minusOne = valueOf (negsuc 0)
+minusOne = intValue (negsuc 0)
 
 rows-of-years : RowOf lastOf1969 nought nought × RowOf lastOf1969 minusOne minusOne
 unfolding transformValue head transformOf value content transformedRow resultType checked numberPartition partition
