@@ -1,3 +1,6 @@
 -- Lemmas that several proofs share.
-pub mod Types
-pub mod Turns
+pub mod Columns
+pub mod Transforms
+pub mod NumberAnswers
+pub mod BytesAnswers
+pub mod ValueAnswers

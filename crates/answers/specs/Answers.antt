@@ -14,7 +14,8 @@ use Rattle.projection.specs.Steps.{Projected, some, none, mapped}
 use Rattle.projection.specs.declared.question.Question.{Question}
 use Rattle.sheet.specs.Values.{eachLiteral, readRow}
 use Rattle.write.specs.Written.{valueRecord, answerSheet}
-use Rattle.answers.specs.Kinds.{Kind, numbers, byteStrings, byLayout, mapRow, mapLiterals}
+use Rattle.answers.specs.Kinds.{Kind, numbers, byteStrings}
+use Rattle.sheet.specs.Values.{byLayout, mapRow, mapLiterals}
 use Rattle.answers.specs.declared.answer.Answer.{Answer}
 use Rattle.answers.specs.declared.answer.Answer.the-variants.{Written, NoPredicate, BufferTooSmall, Err}
 

@@ -38,19 +38,3 @@ module _ (column : PrimitiveType) (transform : Transform) where
     project = λ question leaf. projectBytes question column transform leaf;
     write = λ to s. s;
   }
-
--- the kind of a layout
-abbrev pub byLayout : {X : Type 0} → Layout → (ℕ → X) → X → X
-byLayout (number n) f g = f n
-byLayout (bytes n) f g = g
-
--- ---- each value of a row or a predicate
-
-abbrev pub mapRow : {A B : Type 0} → (A → B) → Row A → Row B
-mapRow f missing = missing
-mapRow f (present v) = present (f v)
-
-abbrev pub mapLiterals : {A B : Type 0} → (A → B) → Predicate A → Predicate B
-mapLiterals f (unary o) = unary o
-mapLiterals f (test (binary o l)) = test (binary o (f l))
-mapLiterals f (test (set o ls)) = test (set o (map f ls))

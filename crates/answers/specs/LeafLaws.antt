@@ -25,10 +25,11 @@ use Rattle.projection.specs.Projection.{byTransform, projection, numberStep, pr
 use Rattle.projection.specs.Steps.{Projected}
 use Rattle.projection.specs.declared.question.Question.{Question}
 use Rattle.answers.specs.Answers.{projected, projectedLeaf}
-use Rattle.answers.specs.Contents.{allUtf8}
-use Rattle.answers.specs.Kinds.{numbers, byteStrings, byLayout, mapLiterals}
+use Rattle.sheet.specs.Contents.{allUtf8}
+use Rattle.answers.specs.Kinds.{numbers, byteStrings}
+use Rattle.sheet.specs.Values.{byLayout, mapLiterals}
 use Rattle.answers.specs.Leaves.{leafOf, numbersWritten, bytesWritten, numberSteps, byteSteps, steps}
-use Rattle.answers.specs.ReadLaws.{number-literals, bytes-literals}
+use Rattle.sheet.specs.ReadLaws.{number-literals, bytes-literals}
 use Rattle.answers.specs.declared.leaf.Leaf.{Leaf}
 
 -- a leaf by its operator and its literals
@@ -55,14 +56,15 @@ unknown-refused compare step Hour to l = refl
 unknown-refused compare step Void to l = refl
 unknown-refused compare step Unknown to l = refl
 
+-- a column that has a result type goes on to the steps
 module _ {A : Type 0} (compare : A → A → Ordering) (step : Test A → Res (Projected (Test A))) (column to : PrimitiveType) (transform : Transform)
     (result : resultType transform column ≡ ok to) where
-  after-checks : (l : Predicate A) → projection compare step column transform l ≡ byTransform compare step transform l
+  pub after-checks : (l : Predicate A) → projection compare step column transform l ≡ byTransform compare step transform l
   unfolding checked
   after-checks l = rw result (unknown-refused compare step transform to l)
 
 -- no column of numbers is a String
-numbers-string : (column : PrimitiveType) (n : ℕ) → layout column ≡ number n → sameType column String ≡ false
+pub numbers-string : (column : PrimitiveType) (n : ℕ) → layout column ≡ number n → sameType column String ≡ false
 numbers-string Int n e = refl
 numbers-string Long n e = refl
 numbers-string Date n e = refl
@@ -74,7 +76,7 @@ numbers-string TimestamptzNs n e = refl
 numbers-string String n e = cc
 numbers-string Binary n e = cc
 
-then-on : {A B : Type 0} (x : A) (b : Bool) (f : A → Res B) → ((need b NotUtf8 >> ok x) >>= f) ≡ (need b NotUtf8 >> f x)
+pub then-on : {A B : Type 0} (x : A) (b : Bool) (f : A → Res B) → ((need b NotUtf8 >> ok x) >>= f) ≡ (need b NotUtf8 >> f x)
 then-on x true f = refl
 then-on x false f = refl
 

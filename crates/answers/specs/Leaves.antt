@@ -16,6 +16,7 @@ use Rattle.transform.specs.ResultType.{resultType}
 use Rattle.expr.specs.Operators.{Arity, none, one, many, within, outside, arity}
 use Rattle.expr.specs.Predicates.{Test, Predicate, unary, test, binary, set}
 use Rattle.expr.specs.declared.operator.PredicateOperator.{PredicateOperator}
+pub use Rattle.projection.specs.Answers.{takesOne}
 use Rattle.projection.specs.Lifting.{lifted}
 use Rattle.projection.specs.Projection.{byTransform, numberStep, bytesStep}
 use Rattle.projection.specs.Steps.{Projected, some, mapped}
@@ -27,7 +28,7 @@ use Rattle.sheet.specs.ReadAnswers.{Placed, contentsAt, numbersAt, takes}
 use Rattle.sheet.specs.Records.{recordSize}
 use Rattle.sheet.specs.Sheets.{projectLimit, holdsLimit}
 use Rattle.write.specs.Written.{answerSheet, numberBytes}
-use Rattle.answers.specs.Kinds.{byLayout, mapLiterals}
+use Rattle.sheet.specs.Values.{byLayout, mapLiterals}
 use Rattle.answers.specs.declared.leaf.Leaf.{Leaf}
 
 -- of an operator that takes one literal the first counts; `other` stands for it where there is none
@@ -43,11 +44,6 @@ abbrev pub takesNone : Arity → Bool
 takesNone (none o) = true
 takesNone (one o) = false
 takesNone (many o) = false
-
-abbrev pub takesOne : Arity → Bool
-takesOne (none o) = false
-takesOne (one o) = true
-takesOne (many o) = false
 
 abbrev pub takesMany : Arity → Bool
 takesMany (none o) = false

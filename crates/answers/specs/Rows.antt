@@ -13,7 +13,7 @@ use Rattle.projection.specs.Steps.{Projected}
 use Rattle.sheet.specs.Records.{value}
 use Rattle.write.specs.Written.{valueRecord, numberBytes}
 use Rattle.answers.specs.Answers.{transformedRow, asResult}
-use Rattle.answers.specs.Kinds.{mapRow}
+use Rattle.sheet.specs.Values.{mapRow}
 
 -- a number's and a byte string's partition value, written
 unfoldable pub numberValue : PrimitiveType → Transform → PrimitiveType → Row ℤ → Res (Projected (List ℕ))

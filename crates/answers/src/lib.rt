@@ -1,4 +1,6 @@
 // What a leaf and a row are answered: the steps, and their result written into a lent buffer.
 pub mod answer;
-pub mod content;
 pub mod leaf;
+pub mod number;
+pub mod string;
+pub mod value;

@@ -30,7 +30,7 @@ use Rattle.projection.specs.Steps.{some}
 use Rattle.projection.specs.declared.question.Question.{Question}
 use Rattle.sheet.specs.Sheets.{projectLimit, holdsLimit}
 use Rattle.sheet.specs.Values.{readBytes}
-use Rattle.api.specs.HoldsTest.{testedSheet}
+use Rattle.meets.specs.Tested.{testedSheet}
 use Rattle.answers.specs.Kinds.{byteStrings}
 use Rattle.answers.specs.Answers.{transformedRow}
 use Rattle.api.proofs.KindLaws.{KindLaws}

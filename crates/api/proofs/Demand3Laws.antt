@@ -25,7 +25,7 @@ use Rattle.projection.specs.declared.question.Question.{Question}
 use Rattle.projection.specs.declared.question.Question.the-variants.{Inclusive, Strict}
 use Rattle.sheet.specs.Sheets.{Head, head, sheet, projectLimit}
 use Rattle.api.specs.Demand3.{typeIn, transformIn, widthIn, Returns, Accepts, RowOf, NoRowLost, StrictIsSafe, Numeric, StrictIsExact, InclusiveIsExact, Demand3}
-use Rattle.answers.specs.Kinds.{byLayout}
+use Rattle.sheet.specs.Values.{byLayout}
 use Rattle.answers.specs.Kinds.{Kind, numbers, byteStrings}
 use Rattle.answers.specs.Answers.{projected, projectedLeaf}
 use Rattle.api.specs.Routines.{projectSheet}

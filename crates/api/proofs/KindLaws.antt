@@ -21,7 +21,8 @@ use Rattle.sheet.specs.Sheets.{head, sheet, projectLimit, holdsLimit}
 use Rattle.sheet.specs.Values.{eachLiteral, readRow}
 use Rattle.write.specs.Written.{valueRecord, answerSheet}
 use Rattle.api.specs.Demand3.{typeIn, transformIn, widthIn, RowOf}
-use Rattle.answers.specs.Kinds.{Kind, mapRow, mapLiterals}
+use Rattle.answers.specs.Kinds.{Kind}
+use Rattle.sheet.specs.Values.{mapRow, mapLiterals}
 use Rattle.answers.specs.Answers.{projected, transformed, transformedRow}
 use Rattle.api.specs.Routines.{transformValue}
 use Rattle.api.proofs.ValueLaws.{sheetOf, ValueLaws}

@@ -1,7 +1,8 @@
 -- Lemmas that several proofs of this crate share, and then, from ValueLaws on, demand 3 over bytes.
-pub mod Arms
-pub mod Rows
 pub mod HoldsReads
+pub mod Buffers
+pub mod ProjectReads
+pub mod LiteralReads
 pub mod ValueLaws
 pub mod KindLaws
 pub mod RowLaws

@@ -38,7 +38,7 @@ use Rattle.projection.specs.declared.question.Question.{Question}
 use Rattle.sheet.specs.Sheets.{projectLimit, holdsLimit}
 use Rattle.sheet.specs.Values.{readNumber}
 use Rattle.write.specs.Written.{numberBytes}
-use Rattle.api.specs.HoldsTest.{testedSheet}
+use Rattle.meets.specs.Tested.{testedSheet}
 use Rattle.answers.specs.Kinds.{numbers}
 use Rattle.answers.specs.Answers.{transformedRow}
 use Rattle.api.proofs.KindLaws.{KindLaws}

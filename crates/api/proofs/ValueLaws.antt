@@ -26,8 +26,9 @@ use Rattle.sheet.specs.Sheets.{Sheet, sheet, holdsLimit}
 use Rattle.sheet.specs.Values.{eachLiteral, readRow}
 use Rattle.write.specs.Written.{valueRecord, answerSheet}
 use Rattle.write.specs.WrittenLaws.{length-answer, answer-back}
-use Rattle.api.specs.HoldsTest.{tested, testedSheet, holdsTest}
-use Rattle.answers.specs.Kinds.{mapRow, mapLiterals}
+use Rattle.api.specs.HoldsTest.{holdsTest}
+use Rattle.meets.specs.Tested.{tested, testedSheet}
+use Rattle.sheet.specs.Values.{mapRow, mapLiterals}
 
 abbrev pub sheetOf : PrimitiveType → Transform → Predicate (List ℕ) → Sheet
 sheetOf column transform leaf = record { head = record { column = column; transform = transform }; leaf = leaf }

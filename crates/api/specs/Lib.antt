@@ -4,5 +4,4 @@ pub mod Routines
 pub mod Demand3
 pub mod Requests
 pub mod Witnesses
-pub mod HeldAnswers
-pub mod HeldLaws
+pub mod HoldsLaws

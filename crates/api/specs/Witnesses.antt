@@ -27,7 +27,8 @@ use Rattle.projection.specs.declared.question.Question.the-variants.{Inclusive,
 use Rattle.sheet.specs.Records.{content, value}
 use Rattle.sheet.specs.Sheets.{head, sheet}
 use Rattle.write.specs.Written.{answerSheet}
-use Rattle.api.specs.HoldsTest.{testedSheet, holdsTest}
+use Rattle.api.specs.HoldsTest.{holdsTest}
+use Rattle.meets.specs.Tested.{testedSheet}
 use Rattle.answers.specs.Answers.{projectedLeaf, transformedRow}
 use Rattle.api.specs.Requests.{sheetOf, valueOf}
 use Rattle.api.specs.Routines.{projectSheet, transformValue}

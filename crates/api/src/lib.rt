@@ -1,2 +1,4 @@
 // The routines over bytes.
 pub mod holds;
+pub mod literal;
+pub mod project;

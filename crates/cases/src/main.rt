@@ -1,14 +1,18 @@
-// Runs the cases on standard input (tools/make-cases) through the holds-test, and prints, for each group and answer expected, how many came out right and wrong.
-use api::holds::holds;
+// Runs the cases on standard input (tools/make-cases) through the four routines, and prints, for each group and answer expected, how many came out right and wrong.
+mod judge;
+
+use judge::Question;
+use judge::is_right;
 use values::words::u16_at;
+use values::words::u32_at;
 ghost use Rattle.io.specs.Counts.{Counts};
 
 // More cases than there are, so that the run ends whatever it is given.
 const MOST_CASES: u32 = 100000;
 
-// A case that was run: its group, the answer that document 01 gives, and the one that came; or the end of the input.
+// A case that was run: its group, the number that document 01 gives, and whether the routine answered so; or the end of the input.
 enum Ran {
-    Case(u8, u8, u32),
+    Case(u8, u8, bool),
     End,
 }
 
@@ -29,7 +33,15 @@ fn print_group(group: u8) -> bool {
         5 => io::write_all(1, b"UTF-8"),
         6 => io::write_all(1, b"lengths and marks"),
         7 => io::write_all(1, b"head fields"),
-        _ => io::write_all(1, b"every byte"),
+        8 => io::write_all(1, b"every byte"),
+        9 => io::write_all(1, b"moments and lots"),
+        10 => io::write_all(1, b"the specification's published values"),
+        11 => io::write_all(1, b"every operator, type and transform"),
+        12 => io::write_all(1, b"sets"),
+        13 => io::write_all(1, b"transforms"),
+        14 => io::write_all(1, b"buffers"),
+        15 => io::write_all(1, b"refusals in order"),
+        _ => io::write_all(1, b"no group"),
     }
 }
 
@@ -58,22 +70,37 @@ fn read_part(n: usize, buf: &mut [u8]) -> usize
     io::read_full(0, &mut buf[..n])
 }
 
-// Reads a case (group, answer expected, the two lengths, sheet, value) and runs it.
+// Reads a case, its header and its two parts (tools/make-cases says which bytes), and runs it.
 fn run() -> Ran {
-    let mut header = [0; 6];
-    if io::read_full(0, &mut header) != 6 {
+    let mut header = [0; 16];
+    if io::read_full(0, &mut header) != 16 {
         return Ran::End;
     }
-    let mut sheet = io::large_buffer();
-    let mut value = io::buffer();
-    let n = read_part(u16_at(&header, 2) as usize, &mut sheet);
-    let m = read_part(u16_at(&header, 4) as usize, &mut value);
-    let answer = holds(&sheet[..n], &value[..m]).number();
-    Ran::Case(header[0], header[1], answer)
+    let group = header[0];
+    let routine = header[1];
+    let expected = header[2];
+    let column_type = header[3];
+    let transform = header[4];
+    let width = u32_at(&header, 6);
+    let lent = u16_at(&header, 14) as usize;
+    let mut first = io::large_buffer();
+    let mut second = io::large_buffer();
+    let n = read_part(u16_at(&header, 10) as usize, &mut first);
+    let m = read_part(u16_at(&header, 12) as usize, &mut second);
+    let question = Question {
+        routine,
+        expected,
+        column_type,
+        transform,
+        width,
+        lent,
+    };
+    let right = is_right(question, &first[..n], &second[..m]);
+    Ran::Case(group, expected, right)
 }
 
 // The counts with one more case; those of another group or answer are printed first.
-fn count(counts: Tally, group: u8, expected: u8, answer: u32) -> Tally {
+fn count(counts: Tally, group: u8, expected: u8, as_expected: bool) -> Tally {
     let mut right = 0;
     let mut wrong = 0;
     if counts.group == group && counts.expected == expected {
@@ -82,7 +109,7 @@ fn count(counts: Tally, group: u8, expected: u8, answer: u32) -> Tally {
     } else {
         print_counts(counts);
     }
-    if answer == expected as u32 {
+    if as_expected {
         right = std::num::wrapping_add_u64(right, 1);
     } else {
         wrong = std::num::wrapping_add_u64(wrong, 1);
@@ -106,8 +133,8 @@ fn main() {
     while left != 0 {
         left -= 1;
         match run() {
-            Ran::Case(group, expected, answer) => {
-                counts = count(counts, group, expected, answer);
+            Ran::Case(group, expected, right) => {
+                counts = count(counts, group, expected, right);
             }
             Ran::End => break,
         }

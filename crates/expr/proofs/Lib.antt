@@ -1,3 +1,4 @@
 -- Lemmas that several proofs of this crate share.
 pub mod Arms
 pub mod NumberTests
+pub mod OtherTypes

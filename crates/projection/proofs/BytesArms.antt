@@ -1,7 +1,7 @@
 -- What each return of src/bytes.rt asks, for `search`: the arm that was taken, and what the calls in it gave. Assumes nothing.
 use Prim.Native.Nat.{ℕ, _≤_, _<_}
 use native.Mathlib.Omega.{arith}
-use mathlib.Core.Bool.{false, cond, true≢false}
+use mathlib.Core.Bool.{true, false, cond, true≢false}
 use mathlib.Core.List.{List, map}
 use mathlib.Core.Path.{_≡_, refl, sym, ap, _∙_}
 use lib.Dec.{eqb, ltb}
@@ -27,7 +27,7 @@ use Rattle.expr.specs.Operators.{Arity, arity}
 use Rattle.expr.specs.Predicates.{Test, binary}
 use Rattle.expr.specs.declared.operator.PredicateOperator.{PredicateOperator}
 use Rattle.expr.specs.declared.operator.PredicateOperator.the-variants.{StartsWith, NotStartsWith}
-use Rattle.projection.specs.Answers.{oneTest, asked, bytesLeaf, bytesProjected, truncatedLeaf, startsLeaf, notStartsLeaf}
+use Rattle.projection.specs.Answers.{oneTest, takesOne, asked, bytesLeaf, bytesProjected, truncatedLeaf, startsLeaf, notStartsLeaf}
 use Rattle.projection.specs.Projection.{lengthOf, bytesUnder}
 use Rattle.projection.specs.Steps.{Projected, some, none, valueIn}
 use Rattle.projection.specs.declared.bytes.BytesProjection.{BytesProjection}
@@ -117,6 +117,10 @@ module _ (question : Question) (column : PrimitiveType) (width : ℕ) (o kind : 
   same-operator e same = e ∙ rw is same
 
 pub ruleset operator-arms = (other-operator, same-operator)
+
+-- an operator that an arm hands on
+pub hands-on : (o kind : PredicateOperator) → o ≡ kind → takesOne (arity kind) ≡ true → takesOne (arity o) ≡ true
+hands-on o kind is e = rw is e
 
 -- the two beginnings, of a String and of a column that is none
 module _ (column : PrimitiveType) (width : ℕ) (o : PredicateOperator) (l : List ℕ) where

@@ -1,6 +1,6 @@
 -- What each return of src/number.rt asks, for `search`: the arm that was taken, and what the calls in it gave. Assumes nothing.
 use Prim.Native.Nat.{ℕ}
-use mathlib.Core.Bool.{Bool, true, false, true≢false}
+use mathlib.Core.Bool.{Bool, true, false, cond, true≢false}
 use mathlib.Core.List.{List, [], _∷_, map}
 use mathlib.Core.Path.{_≡_, refl, sym, ap, _∙_}
 use lib.IntN.{ℤ, pos, negsuc, sucℤ, predℤ, _+ℤ_, _-ℤ_, +ℤ-one, -ℤ-one}
@@ -12,9 +12,11 @@ use Rattle.values.specs.IntLaws.{ints, back}
 use Rattle.values.specs.OutcomeLaws.{ok-inj, ok-not-err, gone}
 use Rattle.values.specs.Outcomes.{Res, ok, err, _>>=_, Row, missing, present}
 use Rattle.values.specs.RangeLaws.{in-long}
+use Rattle.values.specs.Types.{inType}
 use Rattle.values.specs.declared.datatypes.PrimitiveType.{PrimitiveType}
+use Rattle.values.specs.declared.datatypes.PrimitiveType.the-variants.{Long}
 use Rattle.values.specs.declared.error.ErrorKind.{ErrorKind}
-use Rattle.values.specs.declared.error.ErrorKind.the-variants.{FeatureUnsupported}
+use Rattle.values.specs.declared.error.ErrorKind.the-variants.{FeatureUnsupported, Overflow}
 use Rattle.values.specs.declared.transform.Transform.{Transform}
 use Rattle.transform.specs.Answers.{numberResult}
 use Rattle.transform.specs.Partition.{transformNumber}
@@ -25,8 +27,8 @@ use Rattle.expr.specs.Operators as operators
 use Rattle.expr.specs.Operators.{Arity, arity}
 use Rattle.expr.specs.Predicates.{set}
 use Rattle.expr.specs.declared.operator.PredicateOperator.{PredicateOperator}
-use Rattle.expr.specs.declared.operator.PredicateOperator.the-variants.{LessThanOrEq, Eq}
-use Rattle.projection.specs.Answers.{oneTest, numberLeaf, neighbour, inclusiveBoundary, strictBoundary, atBoundary, numberProjected}
+use Rattle.expr.specs.declared.operator.PredicateOperator.the-variants.{LessThan, LessThanOrEq, GreaterThan, GreaterThanOrEq, Eq}
+use Rattle.projection.specs.Answers.{oneTest, numberLeaf, neighbour, inclusiveBoundary, strictBoundary, atBoundary, takesOne, OneAt, OneIn, numberProjected}
 use Rattle.projection.specs.BoundaryLaws.{lifted-none, inclusive-at, strict-at}
 use Rattle.projection.specs.Lifting.{lifted, lift}
 use Rattle.projection.specs.Projection.{liftedBy, numberUnder}
@@ -97,7 +99,11 @@ module _ (column : PrimitiveType) (transform : Transform) {b : Boundary} where
     pub literal-refused : {e : ErrorKind} → r ≡ number-result.Err e → err e ≡ atBoundary (numberUnder column transform) b
     literal-refused e = rw (at-literal, e)
 
-pub ruleset literals = (boundary-refused, literal-missing, literal-value, literal-refused)
+-- the operator of the boundary is that of the projection
+pub at-one : {o : PredicateOperator} {l : ℤ} {b : Boundary} → b ≡ boundary.At o l → OneAt b → takesOne (arity o) ≡ true
+at-one is h = rw is at h
+
+pub ruleset literals = (boundary-refused, literal-missing, literal-value, literal-refused, at-one)
 
 -- ---- lifting
 negative : (t : ℤ) → t <ℤ pos 0 → (n : ℕ) × (t ≡ negsuc n)
@@ -137,6 +143,49 @@ module _ (o : PredicateOperator) (t : ℤ) (f : SFits w64 t) where
   lifted-kept h = rw (back f) (ap ok (kept (arity o) t h))
 
 -- ---- a leaf
+
+-- the rows of the table have operators that take one literal
+neighbour-one : (o : PredicateOperator) (z : ℤ) → takesOne (arity o) ≡ true → OneAt (neighbour o z)
+neighbour-one o z h = go (inType Long z)
+  where
+    go : (b : Bool) → OneAt (cond b (boundary.At o z) (boundary.Err Overflow))
+    go true = h
+    go false = tt
+
+inclusive-one : (a : Arity) (l : ℤ) → OneAt (inclusiveBoundary a l)
+inclusive-one (operators.none o) l = tt
+inclusive-one (operators.one operators.less) l = neighbour-one LessThanOrEq (predℤ l) refl
+inclusive-one (operators.one operators.atMost) l = refl
+inclusive-one (operators.one operators.greater) l = neighbour-one GreaterThanOrEq (sucℤ l) refl
+inclusive-one (operators.one operators.atLeast) l = refl
+inclusive-one (operators.one operators.equal) l = refl
+inclusive-one (operators.one operators.notEqual) l = tt
+inclusive-one (operators.one operators.startsWith) l = refl
+inclusive-one (operators.one operators.notStartsWith) l = refl
+inclusive-one (operators.many o) l = tt
+
+strict-one : (a : Arity) (l : ℤ) → OneAt (strictBoundary a l)
+strict-one (operators.none o) l = tt
+strict-one (operators.one operators.less) l = refl
+strict-one (operators.one operators.atMost) l = neighbour-one LessThan (sucℤ l) refl
+strict-one (operators.one operators.greater) l = refl
+strict-one (operators.one operators.atLeast) l = neighbour-one GreaterThan (predℤ l) refl
+strict-one (operators.one operators.equal) l = tt
+strict-one (operators.one operators.notEqual) l = refl
+strict-one (operators.one operators.startsWith) l = tt
+strict-one (operators.one operators.notStartsWith) l = tt
+strict-one (operators.many o) l = tt
+
+pub inclusive-operator : (a : Arity) (l : ℤ) {b : Boundary} → b ≡ inclusiveBoundary a l → OneAt b
+inclusive-operator a l e = rw e (inclusive-one a l)
+
+pub strict-operator : (a : Arity) (l : ℤ) {b : Boundary} → b ≡ strictBoundary a l → OneAt b
+strict-operator a l e = rw e (strict-one a l)
+
+-- the operator of a projection that was asked for
+pub in-one : {q : PredicateOperator} {t : ℤ} {p : NumberProjection} → p ≡ number-projection.One q t → OneIn p → takesOne (arity q) ≡ true
+in-one is h = rw is at h
+
 one-no-set : {X : Type 0} (a : Arity) (t : ℤ) {o : operators.SetOperator} {ts : List ℤ} → oneTest a t ≡ some (set o ts) → X
 one-no-set (operators.none p) t e = absurd (true≢false (cc))
 one-no-set (operators.one p) t e = absurd (true≢false (cc))
@@ -176,4 +225,4 @@ module _ (column : PrimitiveType) (transform : Transform) (o : PredicateOperator
     pub leaf-refused : {e : ErrorKind} → p ≡ number-projection.Err e → err e ≡ numberLeaf Inclusive column transform (arity o) l
     leaf-refused e = rw (leaf, e)
 
-pub ruleset leaves = (leaf-lifted, leaf-plain, leaf-none, leaf-two, leaf-refused)
+pub ruleset leaves = (leaf-lifted, leaf-plain, leaf-none, leaf-two, leaf-refused, in-one)

@@ -1,7 +1,8 @@
 -- What each enum of the code says, as the definitions have it. Assumes nothing.
 use Prim.Native.Nat.{ℕ, _≤_}
-use mathlib.Core.Bool.{cond}
+use mathlib.Core.Bool.{Bool, true, false, cond}
 use mathlib.Core.List.{List, [], _∷_}
+use mathlib.Core.Path.{_≡_}
 use lib.IntN.{ℤ, sucℤ, predℤ}
 use lib.ListN.{length, take}
 use Rattle.values.specs.Outcomes.{Res, ok, err, _>>=_}
@@ -33,6 +34,11 @@ abbrev pub oneTest : {A : Type 0} → Arity → A → Projected (Test A)
 oneTest (operators.none o) l = none
 oneTest (operators.one o) l = some (binary o l)
 oneTest (operators.many o) l = none
+
+abbrev pub takesOne : Arity → Bool
+takesOne (operators.none o) = false
+takesOne (operators.one o) = true
+takesOne (operators.many o) = false
 
 -- what each question is answered
 abbrev pub asked : {X : Type 0} → Question → X → X → X
@@ -88,6 +94,18 @@ atBoundary T (boundary.At o l) = do
   ok (oneTest (arity o) t)
 atBoundary T (boundary.Err e) = err e
 
+-- the operator of a boundary, and of a projection, takes one literal
+abbrev pub OneAt : Boundary → Type 0
+OneAt boundary.None = Unit {0}
+OneAt (boundary.At o l) = takesOne (arity o) ≡ true
+OneAt (boundary.Err e) = Unit {0}
+
+abbrev pub OneIn : NumberProjection → Type 0
+OneIn number-projection.None = Unit {0}
+OneIn (number-projection.One o t) = takesOne (arity o) ≡ true
+OneIn (number-projection.Two t) = Unit {0}
+OneIn (number-projection.Err e) = Unit {0}
+
 abbrev pub numberProjected : NumberProjection → Res (Projected (Test ℤ))
 numberProjected number-projection.None = ok none
 numberProjected (number-projection.One o t) = ok (oneTest (arity o) t)
@@ -106,6 +124,12 @@ abbrev pub NoLonger : ℕ → BytesProjection → Type 0
 NoLonger size bytes-projection.None = Unit {0}
 NoLonger size (bytes-projection.Prefix o n) = n ≤ size
 NoLonger size (bytes-projection.Err e) = Unit {0}
+
+-- and the operator takes one literal
+abbrev pub OneLiteral : BytesProjection → Type 0
+OneLiteral bytes-projection.None = Unit {0}
+OneLiteral (bytes-projection.Prefix o n) = takesOne (arity o) ≡ true
+OneLiteral (bytes-projection.Err e) = Unit {0}
 
 -- ---- the rows of the code: an operator with T(L), and what StartsWith and NotStartsWith come to by L's length
 

@@ -7,12 +7,13 @@ use values::datatypes::PrimitiveType;
 use values::error::ErrorKind;
 use values::transform::Transform;
 use values::utf8::count_code_points;
+ghost use mathlib.Core.Bool.{true};
 ghost use mathlib.Core.Path.{_≡_};
 ghost use lib.ListN.{length};
 ghost use Rattle.values.specs.declared.transform.Transform.the-variants.{Truncate};
 ghost use Rattle.expr.specs.Operators.{arity};
 ghost use Rattle.projection.specs.Projection.{lengthOf};
-ghost use Rattle.projection.specs.Answers.{bytesLeaf, bytesProjected, NoLonger, truncatedLeaf, startsLeaf, notStartsLeaf};
+ghost use Rattle.projection.specs.Answers.{takesOne, bytesLeaf, bytesProjected, NoLonger, OneLiteral, truncatedLeaf, startsLeaf, notStartsLeaf};
 ghost use Rattle.projection.specs.declared.question.Question.the-variants.{Inclusive, Strict};
 
 // What such a leaf comes to: an operator with so many of the literal's first bytes, or none.
@@ -40,8 +41,10 @@ fn truncate_array(
     operator: PredicateOperator,
     l: &[u8],
 ) -> BytesProjection
+    requires { ⌜ takesOne (arity operator) ≡ true ⌝ }
     ensures says { λ r. ⌜ bytesProjected (now (l .entry)) r ≡ truncatedLeaf column width (arity operator) (now (l .entry)) ⌝ }
     ensures short { λ r. ⌜ NoLonger (length (now (l .entry))) r ⌝ }
+    ensures one { λ r. ⌜ OneLiteral r ⌝ }
 {
     match transform_bytes_literal(column, Transform::Truncate(width), l) {
         BytesResult::Missing => BytesProjection::Err(ErrorKind::FeatureUnsupported),
@@ -59,6 +62,7 @@ fn project_starts_with(
 ) -> BytesProjection
     ensures says { λ r. ⌜ bytesProjected (now (l .entry)) r ≡ startsLeaf question column width (now (l .entry)) ⌝ }
     ensures short { λ r. ⌜ NoLonger (length (now (l .entry))) r ⌝ }
+    ensures one { λ r. ⌜ OneLiteral r ⌝ }
 {
     let n = literal_len(column, l);
     if n == width as usize {
@@ -82,6 +86,7 @@ fn project_not_starts_with(
 ) -> BytesProjection
     ensures says { λ r. ⌜ bytesProjected (now (l .entry)) r ≡ notStartsLeaf question column width (now (l .entry)) ⌝ }
     ensures short { λ r. ⌜ NoLonger (length (now (l .entry))) r ⌝ }
+    ensures one { λ r. ⌜ OneLiteral r ⌝ }
 {
     let n = literal_len(column, l);
     if n == width as usize {
@@ -105,6 +110,7 @@ fn project_array(
 ) -> BytesProjection
     ensures says { λ r. ⌜ bytesProjected (now (l .entry)) r ≡ bytesLeaf Inclusive column (Truncate width) (arity operator) (now (l .entry)) ⌝ }
     ensures short { λ r. ⌜ NoLonger (length (now (l .entry))) r ⌝ }
+    ensures one { λ r. ⌜ OneLiteral r ⌝ }
 {
     match operator {
         PredicateOperator::LessThan => {
@@ -143,6 +149,7 @@ fn truncate_array_strict(
 ) -> BytesProjection
     ensures says { λ r. ⌜ bytesProjected (now (l .entry)) r ≡ bytesLeaf Strict column (Truncate width) (arity operator) (now (l .entry)) ⌝ }
     ensures short { λ r. ⌜ NoLonger (length (now (l .entry))) r ⌝ }
+    ensures one { λ r. ⌜ OneLiteral r ⌝ }
 {
     match operator {
         PredicateOperator::LessThan => truncate_array(column, width, operator, l),
@@ -172,6 +179,7 @@ pub fn project_bytes(
 ) -> BytesProjection
     ensures says { λ r. ⌜ bytesProjected (now (l .entry)) r ≡ bytesLeaf question column (Truncate width) (arity operator) (now (l .entry)) ⌝ }
     ensures short { λ r. ⌜ NoLonger (length (now (l .entry))) r ⌝ }
+    ensures one { λ r. ⌜ OneLiteral r ⌝ }
 {
     match question {
         Question::Inclusive => project_array(column, width, operator, l),

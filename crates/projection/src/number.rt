@@ -6,6 +6,7 @@ use transform::truncate::NumberResult;
 use values::datatypes::PrimitiveType;
 use values::error::ErrorKind;
 use values::transform::Transform;
+ghost use mathlib.Core.Bool.{true};
 ghost use mathlib.Core.Path.{_≡_};
 ghost use lib.IntN.{sucℤ, predℤ};
 ghost use Rattle.values.specs.Outcomes.{ok};
@@ -21,6 +22,9 @@ ghost use Rattle.projection.specs.Answers.{
   strictBoundary,
   atBoundary,
   numberProjected,
+  takesOne,
+  OneAt,
+  OneIn,
 };
 ghost use Rattle.projection.specs.declared.question.Question.the-variants.{Inclusive, Strict};
 
@@ -99,7 +103,9 @@ fn project_boundary(
     transform: Transform,
     boundary: Boundary,
 ) -> NumberProjection
-    ensures { λ r. ⌜ numberProjected r ≡ atBoundary (numberUnder column transform) boundary ⌝ }
+    requires { ⌜ OneAt boundary ⌝ }
+    ensures projected { λ r. ⌜ numberProjected r ≡ atBoundary (numberUnder column transform) boundary ⌝ }
+    ensures one { λ r. ⌜ OneIn r ⌝ }
 {
     match boundary {
         Boundary::None => NumberProjection::None,
@@ -132,7 +138,9 @@ pub fn is_lifted(column: PrimitiveType, transform: Transform) -> bool
 
 // Lifting: with a negative number, ≤ uses the one above, and Eq becomes In of both.
 fn adjust_time_projection(operator: PredicateOperator, t: i64) -> NumberProjection
-    ensures { λ r. ⌜ numberProjected r ≡ ok (mapped lift (oneTest (arity operator) t)) ⌝ }
+    requires { ⌜ takesOne (arity operator) ≡ true ⌝ }
+    ensures projected { λ r. ⌜ numberProjected r ≡ ok (mapped lift (oneTest (arity operator) t)) ⌝ }
+    ensures one { λ r. ⌜ OneIn r ⌝ }
 {
     if t < 0 {
         match operator {
@@ -152,7 +160,8 @@ fn project_binary_with_adjusted_boundary(
     operator: PredicateOperator,
     l: i64,
 ) -> NumberProjection
-    ensures { λ r. ⌜ numberProjected r ≡ numberLeaf Inclusive column transform (arity operator) l ⌝ }
+    ensures projected { λ r. ⌜ numberProjected r ≡ numberLeaf Inclusive column transform (arity operator) l ⌝ }
+    ensures one { λ r. ⌜ OneIn r ⌝ }
 {
     match project_boundary(column, transform, adjust_boundary(operator, l)) {
         NumberProjection::One(adjusted, t) => {
@@ -175,7 +184,8 @@ fn truncate_number_strict(
     operator: PredicateOperator,
     l: i64,
 ) -> NumberProjection
-    ensures { λ r. ⌜ numberProjected r ≡ numberLeaf Strict column transform (arity operator) l ⌝ }
+    ensures projected { λ r. ⌜ numberProjected r ≡ numberLeaf Strict column transform (arity operator) l ⌝ }
+    ensures one { λ r. ⌜ OneIn r ⌝ }
 {
     project_boundary(column, transform, strict_boundary(operator, l))
 }
@@ -188,7 +198,8 @@ pub fn project_number(
     operator: PredicateOperator,
     l: i64,
 ) -> NumberProjection
-    ensures { λ r. ⌜ numberProjected r ≡ numberLeaf question column transform (arity operator) l ⌝ }
+    ensures projected { λ r. ⌜ numberProjected r ≡ numberLeaf question column transform (arity operator) l ⌝ }
+    ensures one { λ r. ⌜ OneIn r ⌝ }
 {
     match question {
         Question::Inclusive => {

@@ -3,9 +3,12 @@ pub mod Records
 pub mod Sheets
 pub mod Values
 pub mod ReadAnswers
+pub mod Contents
 pub mod RecordLaws
 pub mod SheetLaws
 pub mod RefusalLaws
 pub mod PartLaws
 pub mod WalkLaws
 pub mod StepLaws
+pub mod ReadLaws
+pub mod ResultLaws

@@ -1,5 +1,6 @@
 // Sheets and value records, read where they lie.
 pub mod chain;
+pub mod content;
 pub mod head;
 pub mod literal;
 pub mod records;

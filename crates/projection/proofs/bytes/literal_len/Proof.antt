@@ -1,6 +1,6 @@
 -- `projection::bytes::literal_len` meets its contract. Assumes nothing.
 use Rattle.values.specs.declared.datatypes.PrimitiveType.the-variants.{String}
-use Rattle.projection.proofs.Others.{other-type}
+use Rattle.expr.proofs.OtherTypes.{other-type}
 use borrow.Author.Needs.{needs}
 use Rattle.projection.proofs.bytes.literal_len.Statement.{statement}
 use Rattle.projection.proofs.bytes.literal_len.Tie as tie

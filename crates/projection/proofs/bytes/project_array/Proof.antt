@@ -6,8 +6,8 @@ use Rattle.expr.proofs.Arms.{but}
 use Rattle.expr.specs.declared.operator.PredicateOperator.the-variants.{LessThan, LessThanOrEq, GreaterThan, GreaterThanOrEq, Eq, StartsWith, NotStartsWith}
 use Rattle.projection.specs.declared.question.Question.the-variants.{Inclusive}
 use Rattle.values.specs.declared.datatypes.PrimitiveType.the-variants.{String}
-use Rattle.projection.proofs.BytesArms.{operator-arms, beginnings, no-row}
-use Rattle.projection.proofs.Others.{other-type}
+use Rattle.projection.proofs.BytesArms.{operator-arms, hands-on, beginnings, no-row}
+use Rattle.expr.proofs.OtherTypes.{other-type}
 use borrow.Author.Needs.{needs}
 use Rattle.projection.proofs.bytes.project_array.Statement.{statement}
 use Rattle.projection.proofs.bytes.project_array.Tie as tie
@@ -34,7 +34,7 @@ returns-10 c =
           (now (a .l))
           (c .match .keys8)
           refl,
-      tt,
+      (tt, tt),
     )
 
 pub project-array-spec : {M : Type 1} → statement M
@@ -44,13 +44,13 @@ project-array-spec =
     (search needs)
     (search needs)
     (search needs)
+    (λ c κs. search (hands-on, needs))
     (search needs)
     (search needs)
     (search needs)
+    (λ c κs. search (hands-on, needs))
     (search needs)
-    (search needs)
-    (search needs)
-    (search needs)
+    (λ c κs. search (hands-on, needs))
     (search needs)
     (search needs)
     (search needs)

@@ -5,7 +5,7 @@ use denote.Ref.{now}
 use Rattle.expr.proofs.Arms.{but}
 use Rattle.expr.specs.declared.operator.PredicateOperator.the-variants.{LessThan, LessThanOrEq, GreaterThan, GreaterThanOrEq, NotEq, StartsWith, NotStartsWith}
 use Rattle.projection.specs.declared.question.Question.the-variants.{Strict}
-use Rattle.projection.proofs.BytesArms.{operator-arms, no-row}
+use Rattle.projection.proofs.BytesArms.{operator-arms, hands-on, no-row}
 use borrow.Author.Needs.{needs}
 use Rattle.projection.proofs.bytes.truncate_array_strict.Statement.{statement}
 use Rattle.projection.proofs.bytes.truncate_array_strict.Tie as tie
@@ -22,7 +22,7 @@ returns-8 c =
           (now (a .l))
           (c .match .keys8)
           refl,
-      tt,
+      (tt, tt),
     )
 
 pub truncate-array-strict-spec : {M : Type 1} → statement M
@@ -30,15 +30,15 @@ truncate-array-strict-spec =
     tie.close
     (tie.spec
     (search needs)
+    (λ c κs. search (hands-on, needs))
     (search needs)
     (search needs)
     (search needs)
+    (λ c κs. search (hands-on, needs))
     (search needs)
     (search needs)
     (search needs)
-    (search needs)
-    (search needs)
-    (search needs)
+    (λ c κs. search (hands-on, needs))
     (search needs)
     (search needs)
     (search needs)

@@ -27,19 +27,19 @@ returns : tie.Need-returns
 returns c =
     let n = c .before .before in
     let s = n .before in
-    lifted-most (s .args .operator) (s .args .t) (s .fits .t) (c .enum-told .given .1) (negative n) (above-fits n)
+    (lifted-most (s .args .operator) (s .args .t) (s .fits .t) (c .enum-told .given .1) (negative n) (above-fits n), s .pre)
 
 returns-2 : tie.Need-returns-2
 returns-2 c =
     let n = c .before .before in
     let s = n .before in
-    lifted-equal (s .args .operator) (s .args .t) (s .fits .t) (c .enum-told2 .given .1) (negative n)
+    (lifted-equal (s .args .operator) (s .args .t) (s .fits .t) (c .enum-told2 .given .1) (negative n), tt)
 
 returns-3 : tie.Need-returns-3
-returns-3 c = let s = c .before .before in lifted-other (s .args .operator) (s .args .t) (s .fits .t) (c .match .keys3)
+returns-3 c = let s = c .before .before in (lifted-other (s .args .operator) (s .args .t) (s .fits .t) (c .match .keys3), s .pre)
 
 returns-4 : tie.Need-returns-4
-returns-4 c = let s = c .before in lifted-kept (s .args .operator) (s .args .t) (s .fits .t) (lt-left (s .fits .t) (lit (pos 0) tt) (c .if1 .left))
+returns-4 c = let s = c .before in (lifted-kept (s .args .operator) (s .args .t) (s .fits .t) (lt-left (s .fits .t) (lit (pos 0) tt) (c .if1 .left)), s .pre)
 
 pub adjust-time-projection-spec : {M : Type 1} → statement M
 adjust-time-projection-spec =

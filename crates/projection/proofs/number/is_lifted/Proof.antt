@@ -1,6 +1,7 @@
 -- `projection::number::is_lifted` meets its contract: each arm answers for its transform, and Day's by the column. Assumes nothing.
 use Rattle.values.specs.declared.datatypes.PrimitiveType.the-variants.{Timestamp}
-use Rattle.projection.proofs.Others.{other-type, not-lifted}
+use Rattle.expr.proofs.OtherTypes.{other-type}
+use Rattle.projection.proofs.Others.{not-lifted}
 use borrow.Author.Needs.{needs}
 use Rattle.projection.proofs.number.is_lifted.Statement.{statement}
 use Rattle.projection.proofs.number.is_lifted.Tie as tie

@@ -1,5 +1,5 @@
 -- `projection::number::project_binary_with_adjusted_boundary` meets its contract. Assumes nothing.
-use Rattle.projection.proofs.NumberArms.{leaves}
+use Rattle.projection.proofs.NumberArms.{inclusive-operator, in-one, leaves}
 use borrow.Author.Needs.{needs}
 use Rattle.projection.proofs.number.project_binary_with_adjusted_boundary.Statement.{
   statement,
@@ -11,10 +11,10 @@ project-binary-with-adjusted-boundary-spec =
     tie.close
     (tie.spec
     (search needs)
+    (λ c κs. search inclusive-operator)
     (search needs)
     (search needs)
-    (search needs)
-    (search needs)
+    (λ c κs. search in-one)
     (search needs)
     (search needs)
     (search needs)

@@ -5,10 +5,16 @@ use Rattle.projection.proofs.number.project_number.Statement.{statement
 use Rattle.projection.proofs.number.project_number.Tie as tie
 
 returns : tie.Need-returns
-returns c = rw (c .before .enum-told .given .1) (rw (back (c .before .before .before .fits .l)) at (c .project-binary-with-adjusted-boundary .ensures))
+returns c = (
+  rw (c .before .enum-told .given .1) (rw (back (c .before .before .before .fits .l)) at (c .project-binary-with-adjusted-boundary .ensures .0)),
+  c .project-binary-with-adjusted-boundary .ensures .1,
+)
 
 returns-2 : tie.Need-returns-2
-returns-2 c = rw (c .before .enum-told2 .given .1) (rw (back (c .before .before .before .fits .l)) at (c .truncate-number-strict .ensures))
+returns-2 c = (
+  rw (c .before .enum-told2 .given .1) (rw (back (c .before .before .before .fits .l)) at (c .truncate-number-strict .ensures .0)),
+  c .truncate-number-strict .ensures .1,
+)
 
 pub project-number-spec : {M : Type 1} → statement M
 project-number-spec =

@@ -1,0 +1,10 @@
+-- `number::lifts_set` meets its contract. Assumes nothing.
+use borrow.Author.Needs.{needs}
+use Rattle.answers.proofs.number.lifts_set.Statement.{statement}
+use Rattle.answers.proofs.number.lifts_set.Tie as tie
+
+returns : tie.Need-returns
+returns c = rw (c .before .enum-told .given .1) (c .is-lifted .ensures)
+
+pub lifts-set-spec : {M : Type 1} → statement M
+lifts-set-spec = tie.close (tie.spec (search needs) (search needs) (search needs) returns (λ c. search needs))

@@ -1,0 +1,103 @@
+// A leaf over a whole-number or time column.
+use crate::answer::Answer;
+use crate::leaf::Leaf;
+use expr::operator::PredicateOperator;
+use projection::number::NumberProjection;
+use projection::number::is_lifted;
+use projection::number::project_number;
+use projection::question::Question;
+use sets::numbers::Collected;
+use sets::numbers::project_set_expr;
+use sheet::literal::number_of;
+use sheet::records::RECORD_SIZE;
+use values::datatypes::PrimitiveType;
+use values::transform::Transform;
+use write::answer::put_numbers;
+use write::answer::put_one_number;
+use write::answer::put_two_numbers;
+ghost use mathlib.Core.Bool.{true};
+ghost use mathlib.Core.Path.{_≡_};
+ghost use Prim.Native.Nat.{_≤_};
+ghost use lib.ListN.{length};
+ghost use Rattle.expr.specs.Operators.{arity};
+ghost use Rattle.projection.specs.Answers.{numberProjected};
+ghost use Rattle.answers.specs.Answers.{Settled};
+ghost use Rattle.answers.specs.Leaves.{numberSteps, numberLeafAt, oneWritten, NumbersIn, sheetBuffer, keeps, takesOne, takesMany, NumberColumn, ReadyLeaf, liftsFor};
+
+// The projection of the one literal, written.
+fn put_projection(to: PrimitiveType, p: NumberProjection, out: &mut [u8]) -> Answer
+    requires { ⌜ NumbersIn to p ⌝ }
+    requires { ⌜ sheetBuffer ≤ length (now out) ⌝ }
+    ensures { λ r. ⌜ Settled (oneWritten to (numberProjected p)) (now (out .entry)) (now (out .exit)) r ⌝ }
+{
+    match p {
+        NumberProjection::None => Answer::NoPredicate,
+        NumberProjection::Err(e) => Answer::Err(e),
+        NumberProjection::One(operator, t) => {
+            put_one_number(out, operator, to, t);
+            Answer::Written(RECORD_SIZE * 2)
+        }
+        NumberProjection::Two(t) => {
+            put_two_numbers(out, PredicateOperator::In, to, t, t + 1);
+            Answer::Written(RECORD_SIZE * 3)
+        }
+    }
+}
+
+// A leaf with one literal; under Identity it is the leaf itself.
+pub fn project_one(x: Leaf, s: &[u8], numbers: &[u16], out: &mut [u8]) -> Answer
+    requires { ⌜ NumberColumn (x .column) ⌝ }
+    requires { ⌜ ReadyLeaf x (now s) (now numbers) (now out) ⌝ }
+    requires { ⌜ takesOne (arity (x .operator)) ≡ true ⌝ }
+    ensures { λ r. ⌜ Settled (numberSteps x (numberLeafAt x (now (s .entry)) (now (numbers .entry)))) (now (out .entry)) (now (out .exit)) r ⌝ }
+{
+    let question = x.question;
+    let operator = x.operator;
+    let column = x.column;
+    let transform = x.transform;
+    let to = x.to;
+    let k = numbers[0] as usize;
+    let l = number_of(s, k, column);
+    if let Transform::Identity = transform {
+        return put_projection(to, NumberProjection::One(operator, l), out);
+    }
+    put_projection(
+        to,
+        project_number(question, column, transform, operator, l),
+        out,
+    )
+}
+
+// Whether the set is lifted.
+fn lifts_set(question: Question, column: PrimitiveType, transform: Transform) -> bool
+    ensures { λ r. ⌜ r ≡ liftsFor question column transform ⌝ }
+{
+    match question {
+        Question::Inclusive => is_lifted(column, transform),
+        Question::Strict => false,
+    }
+}
+
+// A leaf with a set that has a projection.
+pub fn project_set(x: Leaf, s: &[u8], numbers: &[u16], out: &mut [u8]) -> Answer
+    requires { ⌜ NumberColumn (x .column) ⌝ }
+    requires { ⌜ ReadyLeaf x (now s) (now numbers) (now out) ⌝ }
+    requires { ⌜ takesMany (arity (x .operator)) ≡ true ⌝ }
+    requires { ⌜ keeps (x .transform) (x .question) (arity (x .operator)) ≡ true ⌝ }
+    ensures { λ r. ⌜ Settled (numberSteps x (numberLeafAt x (now (s .entry)) (now (numbers .entry)))) (now (out .entry)) (now (out .exit)) r ⌝ }
+{
+    let question = x.question;
+    let operator = x.operator;
+    let column = x.column;
+    let transform = x.transform;
+    let to = x.to;
+    let lifts = lifts_set(question, column, transform);
+    let mut set = [0; 128];
+    match project_set_expr(s, numbers, x.count, column, transform, lifts, &mut set) {
+        Collected::Err(e) => Answer::Err(e),
+        Collected::Count(n) => {
+            put_numbers(out, operator, to, &set, n);
+            Answer::Written(RECORD_SIZE * (n + 1))
+        }
+    }
+}

@@ -1,0 +1,86 @@
+// A leaf over a String or Binary column.
+use crate::answer::Answer;
+use crate::leaf::Leaf;
+use projection::bytes::BytesProjection;
+use projection::bytes::project_bytes;
+use sets::numbers::Collected;
+use sets::strings::project_set_expr;
+use sheet::literal::content_of;
+use sheet::records::RECORD_SIZE;
+use values::datatypes::PrimitiveType;
+use values::transform::Transform;
+use write::answer::put_one_string;
+use write::answer::put_strings;
+ghost use mathlib.Core.Bool.{true};
+ghost use mathlib.Core.Path.{_≡_};
+ghost use Prim.Native.Nat.{_≤_};
+ghost use lib.ListN.{length};
+ghost use Rattle.values.specs.Types.{contentSize};
+ghost use Rattle.expr.specs.Operators.{arity};
+ghost use Rattle.projection.specs.Answers.{bytesProjected, NoLonger, OneLiteral};
+ghost use Rattle.answers.specs.Answers.{Settled};
+ghost use Rattle.answers.specs.Leaves.{byteSteps, bytesLeafAt, oneBytesWritten, sheetBuffer, keeps, takesOne, takesMany, BytesColumn, ReadyLeaf};
+
+// The projection of the literal l, written.
+fn put_projection(to: PrimitiveType, p: BytesProjection, l: &[u8], out: &mut [u8]) -> Answer
+    requires { ⌜ NoLonger (length (now l)) p ⌝ }
+    requires { ⌜ OneLiteral p ⌝ }
+    requires { ⌜ length (now l) ≤ contentSize ⌝ }
+    requires { ⌜ sheetBuffer ≤ length (now out) ⌝ }
+    ensures { λ r. ⌜ Settled (oneBytesWritten to (bytesProjected (now (l .entry)) p)) (now (out .entry)) (now (out .exit)) r ⌝ }
+{
+    match p {
+        BytesProjection::None => Answer::NoPredicate,
+        BytesProjection::Err(e) => Answer::Err(e),
+        BytesProjection::Prefix(operator, n) => {
+            put_one_string(out, operator, to, &l[..n]);
+            Answer::Written(RECORD_SIZE * 2)
+        }
+    }
+}
+
+// A leaf with one literal. What is not Truncate is Identity here, and gives the leaf itself.
+pub fn project_one(x: Leaf, s: &[u8], numbers: &[u16], out: &mut [u8]) -> Answer
+    requires { ⌜ BytesColumn (x .column) ⌝ }
+    requires { ⌜ ReadyLeaf x (now s) (now numbers) (now out) ⌝ }
+    requires { ⌜ takesOne (arity (x .operator)) ≡ true ⌝ }
+    ensures { λ r. ⌜ Settled (byteSteps x (bytesLeafAt x (now (s .entry)) (now (numbers .entry)))) (now (out .entry)) (now (out .exit)) r ⌝ }
+{
+    let question = x.question;
+    let operator = x.operator;
+    let column = x.column;
+    let transform = x.transform;
+    let to = x.to;
+    let k = numbers[0] as usize;
+    let l = content_of(s, k);
+    match transform {
+        Transform::Truncate(width) => {
+            let p = project_bytes(question, column, width, operator, l);
+            put_projection(to, p, l, out)
+        }
+        _ => put_projection(to, BytesProjection::Prefix(operator, l.len()), l, out),
+    }
+}
+
+// A leaf with a set that has a projection.
+pub fn project_set(x: Leaf, s: &[u8], numbers: &[u16], out: &mut [u8]) -> Answer
+    requires { ⌜ BytesColumn (x .column) ⌝ }
+    requires { ⌜ ReadyLeaf x (now s) (now numbers) (now out) ⌝ }
+    requires { ⌜ takesMany (arity (x .operator)) ≡ true ⌝ }
+    requires { ⌜ keeps (x .transform) (x .question) (arity (x .operator)) ≡ true ⌝ }
+    ensures { λ r. ⌜ Settled (byteSteps x (bytesLeafAt x (now (s .entry)) (now (numbers .entry)))) (now (out .entry)) (now (out .exit)) r ⌝ }
+{
+    let operator = x.operator;
+    let column = x.column;
+    let transform = x.transform;
+    let to = x.to;
+    let mut sizes = [0; 65];
+    let mut set = [0; 128];
+    match project_set_expr(s, numbers, x.count, column, transform, &mut sizes, &mut set) {
+        Collected::Err(e) => Answer::Err(e),
+        Collected::Count(n) => {
+            put_strings(out, operator, to, s, &sizes, &set, n);
+            Answer::Written(RECORD_SIZE * (n + 1))
+        }
+    }
+}

@@ -1,0 +1,155 @@
+// A row to be transformed: its partition value, written as a record.
+use crate::answer::Answer;
+use sheet::content::number_in;
+use sheet::content::value_utf8;
+use sheet::literal::content_of;
+use sheet::records::RECORD_SIZE;
+use sheet::value::ValueResult;
+use sheet::value::read_value;
+use transform::partition::BytesResult;
+use transform::partition::NumberRow;
+use transform::partition::result_type;
+use transform::partition::transform_bytes;
+use transform::partition::transform_number;
+use transform::truncate::NumberResult;
+use values::datatypes::PrimitiveType;
+use values::datatypes::TypeResult;
+use values::error::ErrorKind;
+use values::transform::Transform;
+use write::write::put_missing;
+use write::write::put_number;
+use write::write::put_string;
+ghost use mathlib.Core.Bool.{true, not, _||_};
+ghost use mathlib.Core.Logic.{_⊎_};
+ghost use mathlib.Core.Path.{_≡_};
+ghost use Prim.Native.Nat.{_≤_};
+ghost use lib.ListN.{length};
+ghost use Rattle.values.specs.Outcomes.{ok};
+ghost use Rattle.values.specs.Types.{layout, fits, sameType};
+ghost use Rattle.values.specs.declared.datatypes.PrimitiveType.the-variants.{String};
+ghost use Rattle.transform.specs.Answers.{numberRow};
+ghost use Rattle.transform.specs.ResultType.{resultType};
+ghost use Rattle.sheet.specs.Records.{recordSize};
+ghost use Rattle.answers.specs.Answers.{transformedRow, asResult, Settled};
+ghost use Rattle.sheet.specs.Contents.{row, rowUtf8};
+ghost use Rattle.answers.specs.Leaves.{NumberColumn, BytesColumn};
+ghost use Rattle.answers.specs.Rows.{numberRowIn, numberValue, bytesValue, valueAnswer};
+
+// A number, or none.
+fn number_row(present: bool, content: &[u8]) -> NumberRow
+    requires { ⌜ (present ≡ true → (length (now content) ≡ 4) ⊎ (length (now content) ≡ 8)) ⌝ }
+    ensures { λ r. ⌜ numberRow r ≡ numberRowIn (row present (now (content .entry))) (length (now (content .entry))) ⌝ }
+{
+    if present {
+        NumberRow::Present(number_in(content))
+    } else {
+        NumberRow::Missing
+    }
+}
+
+fn transform_number_row(
+    column: PrimitiveType,
+    transform: Transform,
+    to: PrimitiveType,
+    present: bool,
+    content: &[u8],
+    out: &mut [u8],
+) -> Answer
+    requires { ⌜ NumberColumn column ⌝ }
+    requires { ⌜ (present ≡ true → fits (layout column) (length (now content)) ≡ true) ⌝ }
+    requires { ⌜ resultType transform column ≡ ok to ⌝ }
+    requires { ⌜ recordSize ≤ length (now out) ⌝ }
+    ensures { λ r. ⌜ Settled (numberValue column transform to (numberRowIn (row present (now (content .entry))) (length (now (content .entry))))) (now (out .entry)) (now (out .exit)) r ⌝ }
+{
+    match transform_number(column, transform, number_row(present, content)) {
+        NumberResult::Err(e) => Answer::Err(e),
+        NumberResult::Missing => {
+            put_missing(out);
+            Answer::Written(RECORD_SIZE)
+        }
+        NumberResult::Value(t) => {
+            put_number(out, 0, 0, to, t);
+            Answer::Written(RECORD_SIZE)
+        }
+    }
+}
+
+fn transform_bytes_row(
+    column: PrimitiveType,
+    transform: Transform,
+    present: bool,
+    content: &[u8],
+    out: &mut [u8],
+) -> Answer
+    requires { ⌜ BytesColumn column ⌝ }
+    requires { ⌜ (present ≡ true → fits (layout column) (length (now content)) ≡ true) ⌝ }
+    requires { ⌜ recordSize ≤ length (now out) ⌝ }
+    ensures { λ r. ⌜ Settled (bytesValue column transform (row present (now (content .entry)))) (now (out .entry)) (now (out .exit)) r ⌝ }
+{
+    match transform_bytes(column, transform, present, content) {
+        BytesResult::Err(e) => Answer::Err(e),
+        BytesResult::Missing => {
+            put_missing(out);
+            Answer::Written(RECORD_SIZE)
+        }
+        BytesResult::Prefix(n) => {
+            put_string(out, 0, 0, &content[..n]);
+            Answer::Written(RECORD_SIZE)
+        }
+    }
+}
+
+// Whether a value is what the column asks for.
+fn value_ok(column: PrimitiveType, present: bool, content: &[u8]) -> bool
+    ensures { λ r. ⌜ r ≡ (not (sameType column String) || rowUtf8 (row present (now (content .entry)))) ⌝ }
+{
+    if let PrimitiveType::String = column {
+        value_utf8(present, content)
+    } else {
+        true
+    }
+}
+
+// 4, then 5, then the transform.
+fn transform_row(
+    column: PrimitiveType,
+    transform: Transform,
+    present: bool,
+    content: &[u8],
+    out: &mut [u8],
+) -> Answer
+    requires { ⌜ (present ≡ true → fits (layout column) (length (now content)) ≡ true) ⌝ }
+    requires { ⌜ recordSize ≤ length (now out) ⌝ }
+    ensures { λ r. ⌜ Settled (asResult (transformedRow column transform (row present (now (content .entry))))) (now (out .entry)) (now (out .exit)) r ⌝ }
+{
+    if !value_ok(column, present, content) {
+        return Answer::Err(ErrorKind::NotUtf8);
+    }
+    match result_type(transform, column) {
+        TypeResult::Err(e) => Answer::Err(e),
+        TypeResult::Ok(to) => match column {
+            PrimitiveType::String => transform_bytes_row(column, transform, present, content, out),
+            PrimitiveType::Binary => transform_bytes_row(column, transform, present, content, out),
+            _ => transform_number_row(column, transform, to, present, content, out),
+        },
+    }
+}
+
+// The value in a record.
+pub fn transform_value(
+    column: PrimitiveType,
+    transform: Transform,
+    value: &[u8],
+    out: &mut [u8],
+) -> Answer
+    requires { ⌜ recordSize ≤ length (now out) ⌝ }
+    ensures { λ r. ⌜ Settled (valueAnswer column transform (now (value .entry))) (now (out .entry)) (now (out .exit)) r ⌝ }
+{
+    match read_value(value, column) {
+        ValueResult::Err(e) => Answer::Err(e),
+        ValueResult::Missing => transform_row(column, transform, false, value, out),
+        ValueResult::Present(_) => {
+            transform_row(column, transform, true, content_of(value, 0), out)
+        }
+    }
+}

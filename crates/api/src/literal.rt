@@ -1,0 +1,34 @@
+// The transform of one value.
+use answers::answer::Answer;
+use answers::value::transform_value;
+use sheet::records::RECORD_SIZE;
+use values::datatypes::PrimitiveType;
+use values::datatypes::TypeResult;
+use values::transform::Transform;
+use values::transform::TransformResult;
+ghost use mathlib.Core.Path.{_≡_};
+ghost use Rattle.answers.specs.Answers.{asResult};
+ghost use Rattle.api.specs.Routines.{transformValue, valueBuffer, answered, leftIn};
+
+// The record of a value's partition value, written to the start of `out`: 2, then 3, then what the value is answered.
+pub fn transform_literal(
+    column_type: u8,
+    transform: u8,
+    width: u32,
+    value: &[u8],
+    out: &mut [u8],
+) -> Answer
+    ensures number { λ r. ⌜ r ≡ answered valueBuffer (now (out .entry)) (asResult (transformValue «column_type» transform width (now (value .entry)))) ⌝ }
+    ensures buffer { λ _. ⌜ now (out .exit) ≡ leftIn valueBuffer (now (out .entry)) (asResult (transformValue «column_type» transform width (now (value .entry)))) ⌝ }
+{
+    if out.len() < RECORD_SIZE {
+        return Answer::BufferTooSmall;
+    }
+    match PrimitiveType::from_number(column_type) {
+        TypeResult::Err(e) => Answer::Err(e),
+        TypeResult::Ok(column) => match Transform::from_numbers(transform, width) {
+            TransformResult::Err(e) => Answer::Err(e),
+            TransformResult::Ok(t) => transform_value(column, t, value, out),
+        },
+    }
+}

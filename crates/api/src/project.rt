@@ -1,0 +1,49 @@
+// The two projections of a sheet.
+use answers::answer::Answer;
+use answers::leaf::project_leaf;
+use projection::question::Question;
+use sheet::records::RECORD_SIZE;
+use sheet::sheet::HOLDS_LIMIT;
+use sheet::sheet::PROJECT_LIMIT;
+use sheet::sheet::SheetResult;
+use sheet::sheet::read_sheet;
+ghost use mathlib.Core.Path.{_≡_};
+ghost use Rattle.projection.specs.declared.question.Question.the-variants.{Inclusive, Strict};
+ghost use Rattle.answers.specs.Leaves.{sheetBuffer};
+ghost use Rattle.api.specs.Routines.{projectSheet, answered, leftIn};
+
+// The bytes of the longest answer sheet.
+pub const SHEET_BUFFER: usize = RECORD_SIZE * (HOLDS_LIMIT + 1);
+
+// The answer sheet of a sheet, written to the start of `out`: 2, then 3, then what the leaf is answered.
+fn project_sheet(question: Question, sheet: &[u8], out: &mut [u8]) -> Answer
+    ensures number { λ r. ⌜ r ≡ answered sheetBuffer (now (out .entry)) (projectSheet question (now (sheet .entry))) ⌝ }
+    ensures buffer { λ _. ⌜ now (out .exit) ≡ leftIn sheetBuffer (now (out .entry)) (projectSheet question (now (sheet .entry))) ⌝ }
+{
+    if out.len() < SHEET_BUFFER {
+        return Answer::BufferTooSmall;
+    }
+    let mut numbers = [0; HOLDS_LIMIT];
+    match read_sheet(sheet, PROJECT_LIMIT, &mut numbers) {
+        SheetResult::Err(e) => Answer::Err(e),
+        SheetResult::Ok(read) => {
+            project_leaf(question, read.head, read.count, sheet, &numbers, out)
+        }
+    }
+}
+
+// Which partition values may have a row that meets the sheet's leaf.
+pub fn project(sheet: &[u8], out: &mut [u8]) -> Answer
+    ensures number { λ r. ⌜ r ≡ answered sheetBuffer (now (out .entry)) (projectSheet Inclusive (now (sheet .entry))) ⌝ }
+    ensures buffer { λ _. ⌜ now (out .exit) ≡ leftIn sheetBuffer (now (out .entry)) (projectSheet Inclusive (now (sheet .entry))) ⌝ }
+{
+    project_sheet(Question::Inclusive, sheet, out)
+}
+
+// Which partition values have only rows that meet the sheet's leaf.
+pub fn strict_project(sheet: &[u8], out: &mut [u8]) -> Answer
+    ensures number { λ r. ⌜ r ≡ answered sheetBuffer (now (out .entry)) (projectSheet Strict (now (sheet .entry))) ⌝ }
+    ensures buffer { λ _. ⌜ now (out .exit) ≡ leftIn sheetBuffer (now (out .entry)) (projectSheet Strict (now (sheet .entry))) ⌝ }
+{
+    project_sheet(Question::Strict, sheet, out)
+}

@@ -1,0 +1,107 @@
+// One case: the routine is asked, and its answer held against the one that document 01 gives.
+use answers::answer::Answer;
+use api::holds::holds;
+use api::literal::transform_literal;
+use api::project::project;
+use api::project::strict_project;
+use values::order::starts_with;
+
+// The routines' numbers in a case; any other is the transform of one value.
+const HOLDS_TEST: u8 = 0;
+
+const INCLUSIVE: u8 = 1;
+
+const STRICT: u8 = 2;
+
+// What a lent buffer holds before the call: a byte that steps from place to place, so that bytes that were moved show too.
+const FIRST_FILLER: u8 = 165;
+
+const FILLER_STEP: u8 = 7;
+
+// What a case asks beside its two parts: the routine, the number expected, type, transform and width of a transform, and how long a result buffer is lent.
+pub struct Question {
+    pub routine: u8,
+    pub expected: u8,
+    pub column_type: u8,
+    pub transform: u8,
+    pub width: u32,
+    pub lent: usize,
+}
+
+fn fill(out: &mut [u8]) {
+    let mut filler = FIRST_FILLER;
+    let mut i = 0;
+    while i < out.len() {
+        out[i] = filler;
+        filler = std::num::wrapping_add_u8(filler, FILLER_STEP);
+        i += 1;
+    }
+}
+
+// Whether a buffer holds what `fill` put there in every place from count on.
+fn is_filled_from(count: usize, out: &[u8]) -> bool {
+    let mut filler = FIRST_FILLER;
+    let mut i = 0;
+    while i < out.len() {
+        if count <= i {
+            if out[i] != filler {
+                return false;
+            }
+        }
+        filler = std::num::wrapping_add_u8(filler, FILLER_STEP);
+        i += 1;
+    }
+    true
+}
+
+// Asks one of the three routines that write a result.
+fn ask(question: Question, input: &[u8], out: &mut [u8]) -> Answer {
+    let routine = question.routine;
+    if routine == INCLUSIVE {
+        return project(input, out);
+    }
+    if routine == STRICT {
+        return strict_project(input, out);
+    }
+    transform_literal(
+        question.column_type,
+        question.transform,
+        question.width,
+        input,
+        out,
+    )
+}
+
+// Whether such a routine, lent this buffer, gives the number expected, counts and writes the result, and leaves every later byte.
+fn is_right_in(question: Question, input: &[u8], result: &[u8], out: &mut [u8]) -> bool {
+    fill(out);
+    let answer = ask(question, input, out);
+    if answer.number() != question.expected as u32 {
+        return false;
+    }
+    if answer.count() != result.len() {
+        return false;
+    }
+    if !starts_with(out, result) {
+        return false;
+    }
+    is_filled_from(result.len(), out)
+}
+
+// The same, lent the first bytes of some space, as many as the case says.
+fn is_right_within(question: Question, input: &[u8], result: &[u8], space: &mut [u8]) -> bool {
+    let lent = question.lent;
+    if space.len() < lent {
+        return false;
+    }
+    is_right_in(question, input, result, &mut space[..lent])
+}
+
+// Whether a routine answers as expected. The first part is the sheet, or the value to transform; the second is the value for the holds-test, else the result.
+pub fn is_right(question: Question, first: &[u8], second: &[u8]) -> bool {
+    if question.routine == HOLDS_TEST {
+        return holds(first, second).number() == question.expected as u32;
+    }
+    let mut space = io::large_buffer();
+    is_right_within(question, first, second, &mut space)
+}

@@ -1,0 +1,113 @@
+-- `test::bytes_among` meets its contract. The loop's invariant: the literals from index i on answer for all. The measure is what is left of the
+-- count. Assumes nothing.
+use Prim.Native.Nat.{_≤_, _-_}
+use native.Mathlib.Omega.{arith}
+use mathlib.Core.Bool.{false}
+use mathlib.Core.List.{[], _∷_, map}
+use mathlib.Core.Path.{_≡_, refl, sym, ap, _∙_}
+use lib.ListN.{take, getD}
+use lib.Seq.{slice}
+use types.Run.{OneOf, miss}
+use denote.Enum.Declared.{tagOf}
+use borrow.Author.Needs.{needs}
+use Rattle.values.specs.Ascending.{elem}
+use Rattle.values.specs.Order.{compareBytes, isEqual}
+use Rattle.values.specs.declared.order.Ordering.{Ordering}
+use Rattle.values.specs.declared.order.Ordering.the-variants.{Less, Equal, Greater}
+use Rattle.values.proofs.order.Ordering.{the-type}
+use Rattle.sheet.specs.ReadAnswers.{contentAt}
+use Rattle.sheet.proofs.Turns.{for-member, found-here, not-here, nowhere}
+use Rattle.meets.proofs.test.bytes_among.Statement.{statement}
+use Rattle.meets.proofs.test.bytes_among.Tie as tie
+
+-- what `_` is told of the order
+unequal : (o : Ordering) → OneOf (0 ∷ 2 ∷ []) (tagOf the-type o) → isEqual o ≡ false
+unequal Less m = refl
+unequal Equal m = absurd (miss (0 ∷ 2 ∷ []) 1 tt m)
+unequal Greater m = refl
+
+abbrev Inv-loop : tie.InvT-loop
+Inv-loop s numbers count v i₀ i =
+    (i ≤ count) × (elem compareBytes v (map (contentAt s) (slice i count numbers)) ≡ elem compareBytes v (map (contentAt s) (take count numbers)))
+
+abbrev μ-loop : tie.MeasureT-loop
+μ-loop s numbers count v i₀ i = count - i
+
+cast-k : tie.Need-cast-k Inv-loop μ-loop
+cast-k c = omega (arith, c .shared-slice-known4 .given (c .before .before .loop .i))
+
+content-of-requires : tie.Need-content-of-requires Inv-loop μ-loop
+content-of-requires c κs =
+    let l = c .before .before in
+    let e = l .before .before .before .before .pre .each (l .loop .i) (c .before .loop-test .taken) in
+    (e .there, e .short)
+
+-- what the call says of the literal
+told : (c : tie.After-compare-bytes Inv-loop μ-loop)
+    → let l = c .before .before .before .before in
+    let a = l .before .before .before .before .args in
+    compareBytes (a .v .now) (contentAt (a .s .now) (getD (a .numbers .now) (l .loop .i) 0)) ≡ c .compare-bytes .result
+told c =
+    let a = c .before .before .before .before .before .before .before .before .args in
+    ap (compareBytes (a .v .now)) (sym (c .before .content-of .ensures)) ∙ sym (c .compare-bytes .ensures)
+
+returns : tie.Need-returns Inv-loop μ-loop
+returns c =
+    let m = c .before .before in
+    let t = m .before .before .before in
+    let l = t .before in
+    let start = l .before .before .before .before in
+    let a = start .args in
+    found-here
+    (for-member compareBytes _ _)
+    (a .numbers .now)
+    (l .loop .i)
+    (a .count)
+    (l .loop .inv .1)
+    (t .loop-test .taken)
+    (start .pre .room)
+    (ap isEqual (told m ∙ c .enum-told .given .1))
+
+loop-again : tie.Need-loop-again Inv-loop μ-loop
+loop-again c =
+    let m = c .before in
+    let t = m .before .before .before in
+    let l = t .before in
+    let start = l .before .before .before .before in
+    let a = start .args in (
+      omega arith,
+      not-here
+          (for-member compareBytes _ _)
+          (a .numbers .now)
+          (l .loop .i)
+          (a .count)
+          (l .loop .inv .1)
+          (t .loop-test .taken)
+          (start .pre .room)
+          (ap isEqual (told m) ∙ unequal (m .compare-bytes .result) (c .match .keys2)),
+    )
+
+returns-2 : tie.Need-returns-2 Inv-loop μ-loop
+returns-2 c =
+    let l = c .before in
+    let a = l .before .before .before .before .args in
+    nowhere (for-member compareBytes _ _) (a .numbers .now) (l .loop .i) (a .count) (l .loop .inv .1) (l .loop .inv .0) (c .loop-test .left)
+
+pub bytes-among-spec : {M : Type 1} → statement M
+bytes-among-spec =
+    tie.close
+    (tie.spec
+    Inv-loop
+    μ-loop
+    (search needs)
+    (search needs)
+    (search needs)
+    cast-k
+    content-of-requires
+    (search needs)
+    (search needs)
+    returns
+    (search needs)
+    (search needs)
+    loop-again
+    returns-2)

@@ -1,0 +1,3 @@
+// Whether a row meets a leaf.
+pub mod held;
+pub mod test;

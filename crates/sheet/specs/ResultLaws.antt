@@ -1,0 +1,78 @@
+-- What the answers of `read_sheet` and `read_value` tell of their definitions. Assumes nothing.
+use Prim.Native.Nat.{ℕ, _≤_}
+use native.Mathlib.Omega.{arith}
+use mathlib.Core.List.{List, []}
+use mathlib.Core.Path.{_≡_, refl, ap, _∙_}
+use lib.ListN.{length, take, length-map, length-take}
+use Rattle.values.specs.OutcomeLaws.{ok-not-err}
+use Rattle.values.specs.Outcomes.{Res, ok, err, Row, missing, present}
+use Rattle.values.specs.Types.{layout}
+use Rattle.values.specs.declared.datatypes.PrimitiveType.{PrimitiveType}
+use Rattle.values.specs.declared.error.ErrorKind.{ErrorKind}
+use Rattle.expr.specs.Predicates.{literalsIn}
+use Rattle.sheet.specs.PartLaws.{ValueContent, value-content}
+use Rattle.sheet.specs.ReadAnswers.{contentAt, Placed, sheetRead, sheetResult, LiteralsRead, valueResult}
+use Rattle.sheet.specs.Records.{value}
+use Rattle.sheet.specs.Sheets as sheets
+use Rattle.sheet.specs.declared.sheet.Sheet.{Sheet}
+use Rattle.sheet.specs.declared.sheet.SheetResult.{SheetResult}
+use Rattle.sheet.specs.declared.sheet.SheetResult.the-variants as sheet-result
+use Rattle.sheet.specs.declared.value.ValueResult.{ValueResult}
+use Rattle.sheet.specs.declared.value.ValueResult.the-variants as value-result
+
+-- ---- a value
+module _ (column : PrimitiveType) (v : List ℕ) {r : ValueResult} (d : r ≡ valueResult (value (layout column) v)) where
+  pub value-refused : {e : ErrorKind} → r ≡ value-result.Err e → value (layout column) v ≡ err e
+  value-refused {e} is = go (value (layout column) v) d
+    where
+      go : (x : Res (Row (List ℕ))) → r ≡ valueResult x → x ≡ err e
+      go (ok missing) d = cc
+      go (ok (present bs)) d = cc
+      go (err k) d = cc
+
+  pub value-missing : r ≡ value-result.Missing → value (layout column) v ≡ ok missing
+  value-missing is = go (value (layout column) v) d
+    where
+      go : (x : Res (Row (List ℕ))) → r ≡ valueResult x → x ≡ ok missing
+      go (ok missing) d = cc
+      go (ok (present bs)) d = cc
+      go (err k) d = cc
+
+  pub value-present : {n : ℕ} → r ≡ value-result.Present n → (bs : List ℕ) × (value (layout column) v ≡ ok (present bs)) × ValueContent column v bs
+  value-present {n} is = let p = go (value (layout column) v) d in (p .0, p .1, value-content column v (p .0) (p .1))
+    where
+      go : (x : Res (Row (List ℕ))) → r ≡ valueResult x → (bs : List ℕ) × (x ≡ ok (present bs))
+      go (ok missing) d = ([], cc)
+      go (ok (present bs)) d = (bs, refl)
+      go (err k) d = ([], cc)
+
+-- ---- a sheet
+module _ (most : ℕ) (s : List ℕ) {r : SheetResult} (d : r ≡ sheetResult (sheets.sheet most s)) where
+  pub sheet-refused : {e : ErrorKind} → r ≡ sheet-result.Err e → sheets.sheet most s ≡ err e
+  sheet-refused {e} is = go (sheets.sheet most s) d
+    where
+      go : (x : Res sheets.Sheet) → r ≡ sheetResult x → x ≡ err e
+      go (ok x) d = cc
+      go (err k) d = cc
+
+-- one that was read, and the numbers that were left
+pub record SheetTold (most : ℕ) (s numbers : List ℕ) (y : Sheet) : Type 0 where
+  pub x : sheets.Sheet
+  pub is : sheets.sheet most s ≡ ok x
+  pub same : y ≡ sheetRead x
+  pub literals : LiteralsRead s numbers x
+
+pub sheet-told : (most : ℕ) (s : List ℕ) {numbers : List ℕ} {r : SheetResult} {y : Sheet} → r ≡ sheetResult (sheets.sheet most s)
+    → ((x : sheets.Sheet) → sheets.sheet most s ≡ ok x → LiteralsRead s numbers x) → r ≡ sheet-result.Ok y → SheetTold most s numbers y
+sheet-told most s {numbers} {r} {y} d literals is = told (sheets.sheet most s) refl d
+  where
+    told : (x : Res sheets.Sheet) → sheets.sheet most s ≡ x → r ≡ sheetResult x → SheetTold most s numbers y
+    told (ok x) e d = record { x = x; is = e; same = cc; literals = literals x e }
+    told (err k) e d = let no : _≡_ {A = Res ℕ} (err k) (ok 0) = cc in ok-not-err no
+
+pub placed-told : {most : ℕ} {s numbers : List ℕ} {y : Sheet} → SheetTold most s numbers y → Placed (layout (y .head .column)) s numbers (y .count)
+placed-told {most} {s} {numbers} t =
+    let n = length (literalsIn (t .x .leaf)) in
+    let counted : n ≡ length (take n numbers) = ap length (t .literals .literals) ∙ length-map (take n numbers) (contentAt s) in
+    let room : n ≤ length numbers = omega (arith, counted, length-take n numbers) in
+    rw (t .same) (record { room = room; each = t .literals .each })

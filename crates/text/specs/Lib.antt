@@ -1,0 +1,3 @@
+-- The definitions of `text`, and then the laws about them.
+pub mod Text
+pub mod TextLaws

@@ -1,0 +1,4 @@
+// The lines that program `weighpick` prints, written into a lent buffer.
+pub mod decimal;
+pub mod hexadecimal;
+pub mod line;
