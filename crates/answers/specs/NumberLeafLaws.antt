@@ -1,26 +1,21 @@
 -- A leaf with one number: the number is of the column's type, what it comes to is of the result type, and the bytes that are written are its answer
 -- sheet. Assumes nothing.
-use Prim.Native.Nat.{ℕ, suc, _-_, _*_, _^_, _<_}
-use native.Mathlib.Nat.{one-le-pow}
-use native.Mathlib.Omega.{arith}
-use mathlib.Core.Bool.{Bool, true, false, cond, false≢true}
+use Prim.Native.Nat.{ℕ, suc, _*_}
+use mathlib.Core.Bool.{true, false, false≢true}
 use mathlib.Core.List.{List, [], _∷_, map}
 use mathlib.Core.Path.{_≡_, refl, sym, ap, subst, _∙_}
-use lib.Dec.{ltb, lit<}
-use lib.IntN.{ℤ, pos, negsuc, sucℤ}
+use lib.IntN.{ℤ, sucℤ}
 use lib.ListN.{length, getD, length-map}
-use lib.Signed.{mag}
-use borrow.Author.Tests.{ltb-true, ltb-false, eq-eqb}
+use borrow.Author.Tests.{eq-eqb}
 use Rattle.values.specs.AscendingLaws.{AllOf}
 use Rattle.values.specs.Order.{compareNumbers}
 use Rattle.values.specs.OutcomeLaws.{ok-inj}
 use Rattle.values.specs.Outcomes.{ok, _>>=_}
-use Rattle.values.specs.RangeLaws.{in-range-mag}
-use Rattle.values.specs.Types.{Layout, number, bytes, layout, half, fits, inRange, inLayout, inType}
-use Rattle.values.specs.WordLaws.{half-twice, length-bytes}
-use Rattle.values.specs.Words.{over, signed, unsigned}
+use Rattle.values.specs.Types.{Layout, number, bytes, layout, fits, inLayout, inType}
+use Rattle.values.specs.TypesLaws.{Sized, sized}
+use Rattle.values.specs.WordLaws.{signed-in-range, length-bytes}
+use Rattle.values.specs.Words.{over, unsigned}
 use Rattle.values.specs.declared.datatypes.PrimitiveType.{PrimitiveType}
-use Rattle.values.specs.declared.datatypes.PrimitiveType.the-variants.{Int, Long, Date, Time, Timestamp, Timestamptz, TimestampNs, TimestamptzNs, String, Binary}
 use Rattle.values.specs.declared.transform.Transform.{Transform}
 use Rattle.values.specs.declared.transform.Transform.the-variants.{Identity}
 use Rattle.transform.specs.ResultType.{resultType}
@@ -76,35 +71,10 @@ predicate-written to p {before} inside written size =
 
 -- ---- numbers that are read are of the column's type
 
--- whatever the bytes are: a pattern above those of n bytes is read as -1
-pub signed-inside : (n u : ℕ) → 0 < n → inRange n (signed n u) ≡ true
-signed-inside n u h = in-range-mag n (signed n u) .1 (go (ltb u (half n)) refl)
-  where
-    go : (t : Bool) → ltb u (half n) ≡ t → mag (cond t (pos u) (negsuc (256 ^ n - suc u))) < half n
-    go true e = ltb-true u (half n) e
-    go false e = omega (arith, ltb-false u (half n) e, half-twice n h, one-le-pow n 256 (lit< tt))
-
--- a number has bytes
-abbrev Sized : Layout → Type 0
-Sized (number n) = 0 < n
-Sized (bytes n) = Unit {0}
-
-sized : (column : PrimitiveType) → Sized (layout column)
-sized Int = omega arith
-sized Long = omega arith
-sized Date = omega arith
-sized Time = omega arith
-sized Timestamp = omega arith
-sized Timestamptz = omega arith
-sized TimestampNs = omega arith
-sized TimestamptzNs = omega arith
-sized String = tt
-sized Binary = tt
-
 module _ (column : PrimitiveType) (numbers : NumberColumn column) (s : List ℕ) where
   pub number-inside : (k : ℕ) → inType column (numberAt (layout column) s k) ≡ true
   unfolding inType
-  number-inside k = rw (numbers .is) (signed-inside (numbers .size) _ (subst Sized (numbers .is) (sized column)))
+  number-inside k = rw (numbers .is) (signed-in-range (numbers .size) _ (subst Sized (numbers .is) (sized column)))
 
   pub numbers-inside : (ks : List ℕ) → AllOf (λ z. inType column z ≡ true) (map (numberAt (layout column) s) ks)
   numbers-inside [] = tt

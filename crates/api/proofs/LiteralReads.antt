@@ -1,16 +1,14 @@
 -- What a value to be transformed is answered, by what its type, transform and width are read as. Assumes nothing.
 use Prim.Native.Nat.{ℕ}
 use mathlib.Core.List.{List}
-use mathlib.Core.Path.{_≡_, refl}
-use Rattle.values.specs.Answers.{transformResult}
+use mathlib.Core.Path.{_≡_}
 use Rattle.values.specs.Numbered.{find}
-use Rattle.values.specs.Outcomes.{Res, ok, err, _>>=_}
+use Rattle.values.specs.Outcomes.{ok, err, _>>=_}
 use Rattle.values.specs.Transforms.{transformOf}
 use Rattle.values.specs.Types.{types}
 use Rattle.values.specs.declared.datatypes.PrimitiveType.{PrimitiveType}
 use Rattle.values.specs.declared.error.ErrorKind.{ErrorKind}
 use Rattle.values.specs.declared.transform.Transform.{Transform}
-use Rattle.values.specs.declared.transform.TransformResult.{TransformResult}
 use Rattle.sheet.specs.Sheets.{head}
 use Rattle.answers.specs.Answers.{asResult, Settled}
 use Rattle.answers.specs.Rows.{valueAnswer}
@@ -18,12 +16,6 @@ use Rattle.answers.specs.SettledLaws.{settled-refused, settled-as}
 use Rattle.answers.specs.declared.answer.Answer.{Answer}
 use Rattle.answers.specs.declared.answer.Answer.the-variants.{Err}
 use Rattle.api.specs.Routines.{transformValue}
-
-pub transform-told : {r : TransformResult} (x y : Res Transform) → r ≡ transformResult x → r ≡ transformResult y → x ≡ y
-transform-told (ok t) (ok u) a b = cc
-transform-told (ok t) (err e) a b = cc
-transform-told (err e) (ok t) a b = cc
-transform-told (err e) (err f) a b = cc
 
 module _ (type transform width : ℕ) (v : List ℕ) {out : List ℕ} where
   pub no-type : {e : ErrorKind} → find types type ≡ err e → Settled (asResult (transformValue type transform width v)) out out (Err e)

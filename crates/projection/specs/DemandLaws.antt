@@ -16,9 +16,10 @@ use Rattle.values.specs.declared.datatypes.PrimitiveType.{PrimitiveType}
 use Rattle.values.specs.declared.datatypes.PrimitiveType.the-variants.{String}
 use Rattle.values.specs.declared.transform.Transform.{Transform}
 use Rattle.values.specs.declared.transform.Transform.the-variants.{Identity, Truncate}
-use Rattle.transform.specs.Partition.{checked, ofRow, transformNumber, transformBytes, numberPartition, bytesPartition}
+use Rattle.transform.specs.Partition.{ofRow, transformNumber, transformBytes, numberPartition, bytesPartition}
 use Rattle.transform.specs.BytesPartitionLaws.{bytes-present, bytes-missing, bytes-identity, string-truncates}
 use Rattle.transform.specs.PartitionLaws.{number-mono, number-starts, number-identity, number-missing}
+use Rattle.transform.specs.RowLaws.{number-rows, bytes-rows}
 use Rattle.transform.specs.Truncate.{firstCodePoints}
 use Rattle.expr.specs.Holds.{numberTests, bytesTests, meets}
 use Rattle.expr.specs.Predicates.{Test, Predicate, unary, test, literalsIn}
@@ -28,7 +29,7 @@ use Rattle.projection.specs.Lifting.{lifted}
 use Rattle.projection.specs.NumberLaws.{LiftedExact, AllExact, lifted-exact, strict-exact}
 use Rattle.projection.specs.NumberRowLaws.{strict-rows, inclusive-rows, strict-unary, inclusive-unary, strict-itself, inclusive-itself}
 use Rattle.projection.specs.Projection.{through, numberUnder, numberStep, projectNumbers, bytesUnder, bytesStep, projectBytes}
-use Rattle.projection.specs.ProjectionLaws.{bySteps, Course, leafItself, stepped, course, partition-is}
+use Rattle.projection.specs.ProjectionLaws.{bySteps, Course, leafItself, stepped, course}
 use Rattle.projection.specs.RowLaws.{literal-value, same-row}
 use Rattle.projection.specs.SoundLaws.{Demanded, Sound, tests-sound, unary-sound, itself-sound}
 use Rattle.projection.specs.StepLaws.{Returned, returned, returned-by, returned-map}
@@ -38,10 +39,6 @@ use Rattle.projection.specs.declared.question.Question.the-variants.{Inc
 
 -- ---- numbers
 module _ (column : PrimitiveType) (transform : Transform) where
-  number-part : (to : PrimitiveType) → checked column transform ≡ ok to → numberPartition column transform ≡ ofRow (transformNumber column transform)
-  unfolding numberPartition
-  number-part to e = partition-is column to transform (transformNumber column transform) e
-
   under-mono : (v w p q : ℤ) → numberUnder column transform v ≡ ok p → numberUnder column transform w ≡ ok q → v ≤ℤ w → p ≤ℤ q
   under-mono v w p q a b h =
       number-mono
@@ -102,13 +99,13 @@ pub numbers-strict-exact : NumbersStrictExact
 unfolding projectNumbers
 numbers-strict-exact column transform leaf q e =
     let c = course compareNumbers (numberStep column transform Strict) column transform leaf q e in
-    rw (number-part column transform (c .0 .0) (c .0 .1)) (strict-course column transform leaf q (c .1))
+    rw (number-rows column transform (c .0 .0) (c .0 .1)) (strict-course column transform leaf q (c .1))
 
 pub numbers-inclusive-exact : NumbersInclusiveExact
 unfolding projectNumbers
 numbers-inclusive-exact column transform leaf q e =
     let c = course compareNumbers (numberStep column transform Inclusive) column transform leaf q e in
-    rw (number-part column transform (c .0 .0) (c .0 .1)) (inclusive-course column transform leaf q (c .1))
+    rw (number-rows column transform (c .0 .0) (c .0 .1)) (inclusive-course column transform leaf q (c .1))
 
 -- exactness is soundness too
 pub numbers-no-row-lost : (column : PrimitiveType) (transform : Transform) (leaf q : Predicate ℤ)
@@ -177,10 +174,10 @@ module _ (question : Question) (column : PrimitiveType) (transform : Transform) 
 
   bytes-sound : (leaf q : Predicate (List ℕ)) → AllOf (HeldIn column) (literalsIn leaf) → projectBytes question column transform leaf ≡ ok (some q)
       → Sound bytesTests bytesTests (HeldIn column) question (bytesPartition column transform) leaf q
-  unfolding projectBytes bytesPartition
+  unfolding projectBytes
   bytes-sound leaf q fine e =
       let c = course compareBytes (bytesStep column transform question) column transform leaf q e in
-      rw (partition-is column (c .0 .0) transform (transformBytes column transform) (c .0 .1)) (bytes-course leaf q fine (c .1))
+      rw (bytes-rows column transform (c .0 .0) (c .0 .1)) (bytes-course leaf q fine (c .1))
 
 pub bytes-no-row-lost : BytesNoRowLost
 bytes-no-row-lost column transform leaf q fine e = bytes-sound Inclusive column transform leaf q fine e

@@ -23,7 +23,8 @@ use Rattle.values.specs.declared.datatypes.PrimitiveType.{PrimitiveType}
 use Rattle.values.specs.declared.datatypes.PrimitiveType.the-variants.{String}
 use Rattle.values.specs.declared.transform.Transform.{Transform}
 use Rattle.values.specs.declared.transform.Transform.the-variants.{Identity}
-use Rattle.transform.specs.Partition.{checked, ofRow, partition, transformNumber, transformBytes, numberPartition, bytesPartition}
+use Rattle.transform.specs.Partition.{ofRow, transformNumber, transformBytes, numberPartition, bytesPartition}
+use Rattle.transform.specs.RowLaws.{number-row, bytes-row}
 use Rattle.transform.specs.BytesPartitionLaws.{bytes-begin}
 use Rattle.transform.specs.PartitionLaws.{number-lands, number-identity, string-result}
 use Rattle.transform.specs.ResultType.{resultType}
@@ -174,53 +175,41 @@ module _ {A B : Type 0} (g : A → Type 0) (h : B → Type 0) (value : A → Res
   row-lands missing (present t) e x = missing-not-present (ok-inj e)
   row-lands (present v) (present t) e x = gives v t e x
 
-  partition-lands : (column : PrimitiveType) (transform : Transform) (r : Row A) (p : Row B) → partition column transform value r ≡ ok p
-      → OfPresent g r → OfPresent h p
-  unfolding partition
-  partition-lands column transform r p e x = row-lands r p (gone (checked column transform) _ e .2) x
-
 any-value : {A : Type 0} (r : Row A) → OfPresent (λ v. Unit {0}) r
 any-value missing = tt
 any-value (present v) = tt
 
 pub number-partition-lands : (column to : PrimitiveType) (transform : Transform) (r p : Row ℤ) → resultType transform column ≡ ok to
     → numberPartition column transform r ≡ ok p → OfPresent (λ z. inType to z ≡ true) p
-unfolding numberPartition
 number-partition-lands column to transform r p t e =
-    partition-lands
+    row-lands
     (λ v. Unit {0})
     (λ z. inType to z ≡ true)
     (transformNumber column transform)
     (λ v z d x. number-lands column to transform v z t d)
-    column
-    transform
     r
     p
-    e
+    (number-row column transform r p e)
     (any-value r)
 
 pub bytes-partition-lands : (column to : PrimitiveType) (transform : Transform) (r p : Row (List ℕ)) → resultType transform column ≡ ok to
     → bytesPartition column transform r ≡ ok p → OfPresent (HeldIn column) r → OfPresent (HeldIn to) p
-unfolding bytesPartition
 bytes-partition-lands column to transform r p t e x =
-    partition-lands
+    row-lands
     (HeldIn column)
     (HeldIn to)
     (transformBytes column transform)
     (λ s z d k. held-to column to transform t s z (bytes-begin column transform s z d .string) k)
-    column
-    transform
     r
     p
-    e
+    (bytes-row column transform r p e)
     x
 
 -- what every beginning keeps, as that it is short, a partition value has from its row
 pub bytes-partition-hand-on : (g : List ℕ → Type 0) → ((s : List ℕ) (k : ℕ) → g s → g (take k s))
     → (column : PrimitiveType) (transform : Transform) (r p : Row (List ℕ)) → bytesPartition column transform r ≡ ok p → OfPresent g r → OfPresent g p
-unfolding bytesPartition
 bytes-partition-hand-on g begins column transform r p e x =
-    partition-lands g g (transformBytes column transform) (begin-keeps g begins column transform) column transform r p e x
+    row-lands g g (transformBytes column transform) (begin-keeps g begins column transform) r p (bytes-row column transform r p e) x
 
 pub bytes-partition-short : (n : ℕ) (column : PrimitiveType) (transform : Transform) (r p : Row (List ℕ)) → bytesPartition column transform r ≡ ok p
     → OfPresent (λ s. length s ≤ n) r → OfPresent (λ t. length t ≤ n) p

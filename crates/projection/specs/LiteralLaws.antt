@@ -12,7 +12,7 @@ use Rattle.values.specs.AscendingLaws.{AllOf, all-ascending, length-ascending}
 use Rattle.values.specs.IntLaws.{ints}
 use Rattle.values.specs.Order.{compareNumbers, compareBytes}
 use Rattle.values.specs.Outcomes.{Res, ok, err, _>>=_}
-use Rattle.values.specs.OutcomeLaws.{each-length}
+use Rattle.values.specs.OutcomeLaws.{each-length, each-all}
 use Rattle.values.specs.declared.datatypes.PrimitiveType.{PrimitiveType}
 use Rattle.values.specs.declared.order.Ordering.{Ordering}
 use Rattle.values.specs.declared.transform.Transform.{Transform}
@@ -24,7 +24,7 @@ use Rattle.projection.specs.Lifting.{withNexts, lift}
 use Rattle.projection.specs.NumberSteps.{inclusiveNumber, strictNumber}
 use Rattle.projection.specs.Projection.{inOrder, through, projection}
 use Rattle.projection.specs.ProjectionLaws.{Course, leafItself, stepped, course}
-use Rattle.projection.specs.StepLaws.{Returned, returned, returned-map, returned-literal, returned-each, each-all}
+use Rattle.projection.specs.StepLaws.{Returned, returned, returned-map, returned-literal, returned-each}
 use Rattle.projection.specs.Steps.{Projected, some, none, withLiteral, withEach}
 
 -- ---- any kind of value

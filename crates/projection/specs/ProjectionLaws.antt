@@ -1,14 +1,14 @@
 -- What a projection that returns a predicate has done: under Identity it is the leaf, and under the other transforms the step's. Assumes nothing.
 use mathlib.Core.Bool.{Bool, true, false, true≢false}
-use mathlib.Core.Path.{_≡_, refl, sym, fun-ext}
+use mathlib.Core.Path.{_≡_, refl, sym}
 use Rattle.values.specs.Outcomes.{Res, ok, _>>=_, Row, missing, present}
-use Rattle.values.specs.OutcomeLaws.{ok-inj, ok-not-err, gone, going}
+use Rattle.values.specs.OutcomeLaws.{ok-inj, ok-not-err, gone}
 use Rattle.values.specs.declared.datatypes.PrimitiveType.{PrimitiveType}
 use Rattle.values.specs.declared.order.Ordering.{Ordering}
 use Rattle.values.specs.declared.order.Ordering.the-variants.{Equal}
 use Rattle.values.specs.declared.transform.Transform.{Transform}
 use Rattle.values.specs.declared.transform.Transform.the-variants.{Identity, Truncate, Year, Month, Day, Hour, Void, Unknown}
-use Rattle.transform.specs.Partition.{checked, ofRow, partition}
+use Rattle.transform.specs.Partition.{checked}
 use Rattle.expr.specs.Holds.{Tests, holds}
 use Rattle.expr.specs.HoldsLaws.{meets-ascending}
 use Rattle.expr.specs.Predicates.{Test, binary, set, Predicate, unary, test}
@@ -58,9 +58,3 @@ module _ {A : Type 0} (compare : A → A → Ordering) (step : Test A → Res (P
   pub course : (column : PrimitiveType) (transform : Transform) (leaf q : Predicate A) → projection compare step column transform leaf ≡ ok (some q)
       → ((to : PrimitiveType) × (checked column transform ≡ ok to)) × Course transform leaf q
   course column transform leaf q e = let a = gone (checked column transform) _ e in ((a .0, a .1), course-of transform leaf q (a .2))
-
--- ---- a transform that passed its checks gives each row the partition value of its value
-pub partition-is : {A B : Type 0} (column to : PrimitiveType) (transform : Transform) (value : A → Res (Row B)) → checked column transform ≡ ok to
-    → partition column transform value ≡ ofRow value
-unfolding partition
-partition-is column to transform value e = fun-ext (λ r. going (λ to. ofRow value r) e)

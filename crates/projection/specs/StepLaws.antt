@@ -81,9 +81,3 @@ module _ {A B : Type 0} (T : A → Res B) where
   each-from (l ∷ ls) e p m =
       let a = each-cons T l ls e in
       from-first l ls p (a .0) (a .1) (a .2) (each-from ls (a .3) p) (rw (a .4) at m)
-
-  -- what T hands on from a literal to its value
-  pub each-all : (g : A → Type 0) (h : B → Type 0) → ((l : A) (t : B) → T l ≡ ok t → g l → h t) → (ls : List A) {ts : List B} → each T ls ≡ ok ts
-      → AllOf g ls → AllOf h ts
-  each-all g h k [] e x = rw (← ok-inj e) tt
-  each-all g h k (l ∷ ls) e x = let a = each-cons T l ls e in rw (a .4) (k l (a .0) (a .2) (x .0), each-all g h k ls (a .3) (x .1))

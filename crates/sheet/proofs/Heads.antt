@@ -3,6 +3,7 @@ use Prim.Native.Nat.{ℕ, _-_}
 use mathlib.Core.Bool.{true, false}
 use mathlib.Core.List.{List}
 use mathlib.Core.Path.{_≡_, sym, _∙_}
+use Rattle.values.specs.AnswerLaws.{type-told, transform-told}
 use Rattle.values.specs.Answers.{typeResult, transformResult}
 use Rattle.values.specs.Numbered.{find}
 use Rattle.values.specs.Outcomes.{Res, ok, err}
@@ -32,28 +33,16 @@ same-operator (ok a) (err b) e = cc
 same-operator (err a) (ok b) e = cc
 same-operator (err a) (err b) e = cc
 
-same-type : (x y : Res PrimitiveType) → typeResult x ≡ typeResult y → x ≡ y
-same-type (ok a) (ok b) e = cc
-same-type (ok a) (err b) e = cc
-same-type (err a) (ok b) e = cc
-same-type (err a) (err b) e = cc
-
-same-transform : (x y : Res Transform) → transformResult x ≡ transformResult y → x ≡ y
-same-transform (ok a) (ok b) e = cc
-same-transform (ok a) (err b) e = cc
-same-transform (err a) (ok b) e = cc
-same-transform (err a) (err b) e = cc
-
 pub operator-is : (n m : ℕ) (r : OperatorResult) (x : Res PredicateOperator) → n ≡ m → r ≡ operatorResult (find operators n) → r ≡ operatorResult x
     → find operators m ≡ x
 operator-is n m r x a b d = same-operator (find operators m) x (rw (← a) (sym b ∙ d))
 
 pub type-is : (n m : ℕ) (r : TypeResult) (x : Res PrimitiveType) → n ≡ m → r ≡ typeResult (find types n) → r ≡ typeResult x → find types m ≡ x
-type-is n m r x a b d = same-type (find types m) x (rw (← a) (sym b ∙ d))
+type-is n m r x a b d = type-told (find types m) x (rw (← a) b) d
 
 pub transform-is : (n m v w : ℕ) (r : TransformResult) (x : Res Transform) → n ≡ m → v ≡ w → r ≡ transformResult (transformOf n v)
     → r ≡ transformResult x → transformOf m w ≡ x
-transform-is n m v w r x a c b d = same-transform (transformOf m w) x (rw (← a, ← c) (sym b ∙ d))
+transform-is n m v w r x a c b d = transform-told (transformOf m w) x (rw (← a, ← c) b) d
 
 -- ---- the returns
 module _ (s : List ℕ) {e : ErrorKind} where

@@ -11,7 +11,7 @@ use borrow.Author.Tests.{ltb-true, leb-true, eqb-true, le-leb}
 use Rattle.values.specs.AscendingLaws.{AllOf}
 use Rattle.values.specs.Numbered.{find}
 use Rattle.values.specs.Outcomes.{Res, ok, each, _>>=_}
-use Rattle.values.specs.OutcomeLaws.{ok-inj, passing, passed, gone, each-cons, each-length}
+use Rattle.values.specs.OutcomeLaws.{ok-inj, passing, passed, gone, each-cons, each-length, each-all}
 use Rattle.values.specs.Types.{layout, fits}
 use Rattle.values.specs.Words.{word, zeroAt}
 use Rattle.values.specs.WordLaws.{AllBytes}
@@ -60,13 +60,6 @@ cut-bytes : (n : ℕ) (s : List ℕ) → AllBytes s → AllOf AllBytes (records 
 cut-bytes zero s h = tt
 cut-bytes (suc n) s h = (field-bytes 0 recordSize s h, cut-bytes n (drop recordSize s) (drop-bytes recordSize s h))
 
-module _ {A B : Type 0} {p : A → Type 0} {q : B → Type 0} (f : A → Res B) (gives : (x : A) (y : B) → f x ≡ ok y → p x → q y) where
-  each-all : (xs : List A) (ys : List B) → each f xs ≡ ok ys → AllOf p xs → AllOf q ys
-  each-all [] ys e h = subst (AllOf q) (ok-inj e) tt
-  each-all (x ∷ xs) ys e h =
-      let a = each-cons f x xs e in
-      subst (AllOf q) (sym (a .4)) (gives x (a .0) (a .2) (h .0), each-all xs (a .1) (a .3) (h .1))
-
 all-any : {A : Type 0} (xs : List A) → AllOf (λ (x : A). Unit {0}) xs
 all-any [] = tt
 all-any (x ∷ xs) = (tt, all-any xs)
@@ -96,11 +89,11 @@ module _ (most : ℕ) (s : List ℕ) where
       let count = each-length (content (layout ty)) rs contents in
       record {
         head-is = head-is;
-        fit = rw back (each-all (content (layout ty)) (λ r bs e h. content-fits ty r bs e) rs cs contents (all-any rs));
+        fit = rw back (each-all (content (layout ty)) (λ r. Unit {0}) (λ bs. fits (layout ty) (length bs) ≡ true) (λ r bs e h. content-fits ty r bs e) rs contents (all-any rs));
         few = rw back (omega (arith, count, among .0, length-cut n (drop recordSize s)));
         are-bytes = λ b.
             let bytes = among .1 (cut-bytes n (drop recordSize s) (drop-bytes recordSize s b)) in
-            rw back (each-all (content (layout ty)) (content-bytes (layout ty)) rs cs contents bytes);
+            rw back (each-all (content (layout ty)) AllBytes AllBytes (content-bytes (layout ty)) rs contents bytes);
         others = n;
         others-few = omega arith;
         length-is = omega arith;

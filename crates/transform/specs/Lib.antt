@@ -17,3 +17,4 @@ pub mod GregorianLaws
 pub mod CalendarLaws
 pub mod PartitionLaws
 pub mod BytesPartitionLaws
+pub mod RowLaws

@@ -5,14 +5,14 @@ use native.Mathlib.Omega.{arith}
 use mathlib.Core.Bool.{true, false, true≢false}
 use mathlib.Core.Path.{_≡_, refl, sym, ap, subst, _∙_}
 use lib.Dec.{ltb, leb}
-use lib.IntN.{ℤ, pos, sucℤ}
-use lib.Signed.{_≤ℤ_, _<ℤ_}
+use lib.IntN.{ℤ, pos}
+use lib.Signed.{_≤ℤ_}
 use mir.Syntax.{w32, w64}
 use mir.Val.{SFits}
 use Rattle.values.specs.Outcomes.{Res, ok, err, need, _>>=_, _>>_, Row, missing, present}
 use Rattle.values.specs.OutcomeLaws.{ok-inj, present-inj, ok-not-err, missing-not-present, passing, failing, passed, gone}
 use Rattle.values.specs.IntLaws.{ints, neg}
-use Rattle.values.specs.RangeLaws.{in-type, in-int, in-type-long, next-in-type, four}
+use Rattle.values.specs.RangeLaws.{in-type, in-int, in-type-long, four}
 use Rattle.values.specs.Types.{inType}
 use Rattle.values.specs.declared.error.ErrorKind.the-variants.{NoResultType, DataInvalid, FeatureUnsupported, Overflow}
 use Rattle.values.specs.declared.datatypes.PrimitiveType.{PrimitiveType}
@@ -213,10 +213,6 @@ string-result Unknown ty r = ok-inj r
 module _ (ty to : PrimitiveType) (tr : Transform) (v p : ℤ) (r : resultType tr ty ≡ ok to) (e : transformNumber ty tr v ≡ ok (present p)) where
   pub number-lands : inType to p ≡ true
   number-lands = by-lands ty to tr v p r (number-starts ty tr v e) (by ty tr v e)
-
-  -- and so is one above a negative value, which lifting asks for
-  pub number-next : p <ℤ pos 0 → inType to (sucℤ p) ≡ true
-  number-next h = next-in-type to p number-lands h
 
 -- ---- numbers: Identity and Void
 

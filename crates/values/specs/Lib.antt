@@ -9,7 +9,7 @@ pub mod Utf8
 pub mod Order
 pub mod Ascending
 pub mod TestLaws
-pub mod OutcomeLaws
+pub mod AnswerLaws
 pub mod IntLaws
 pub mod RangeLaws
 pub mod TypesLaws
@@ -19,3 +19,4 @@ pub mod Utf8Laws
 pub mod Utf8StepLaws
 pub mod OrderLaws
 pub mod AscendingLaws
+pub mod OutcomeLaws

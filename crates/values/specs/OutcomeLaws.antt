@@ -4,6 +4,7 @@ use mathlib.Core.Bool.{Bool, true, false, true≢false}
 use mathlib.Core.List.{List, [], _∷_}
 use mathlib.Core.Path.{_≡_, refl, sym, ap, _∙_}
 use lib.ListN.{length}
+use Rattle.values.specs.AscendingLaws.{AllOf}
 use Rattle.values.specs.Outcomes.{Res, ok, err, need, each, _>>=_, _>>_, Row, missing, present}
 use Rattle.values.specs.declared.error.ErrorKind.{ErrorKind}
 
@@ -52,3 +53,9 @@ module _ {A B : Type 0} (f : A → Res B) where
   pub each-length : (xs : List A) {ys : List B} → each f xs ≡ ok ys → length ys ≡ length xs
   each-length [] e = ap length (sym (ok-inj e))
   each-length (x ∷ xs) e = let a = each-cons x xs e in ap length (a .4) ∙ ap suc (each-length xs (a .3))
+
+-- what f hands on from each member to its value
+pub each-all : {A B : Type 0} (f : A → Res B) (g : A → Type 0) (h : B → Type 0) → ((x : A) (y : B) → f x ≡ ok y → g x → h y) → (xs : List A) {ys : List B}
+    → each f xs ≡ ok ys → AllOf g xs → AllOf h ys
+each-all f g h k [] e a = rw (← ok-inj e) tt
+each-all f g h k (x ∷ xs) e a = let c = each-cons f x xs e in rw (c .4) (k x (c .0) (c .2) (a .0), each-all f g h k xs (c .3) (a .1))

@@ -1,5 +1,6 @@
--- The numbers of types and of transforms: each is found by its own number, and only by that. Assumes nothing.
-use Prim.Native.Nat.{ℕ}
+-- The numbers of types and of transforms: each is found by its own number, and only by that; and a type of numbers has bytes. Assumes nothing.
+use Prim.Native.Nat.{ℕ, _<_}
+use native.Mathlib.Omega.{arith}
 use mathlib.Core.Bool.{Bool, true, false, cond}
 use mathlib.Core.List.{List, [], _∷_}
 use mathlib.Core.Logic.{_⊎_, inl, inr}
@@ -9,7 +10,7 @@ use borrow.Author.Tests.{eqb-true, eq-eqb, ne-eqb}
 use Rattle.values.specs.Numbered.{Numbered, _is_, find}
 use Rattle.values.specs.Outcomes.{Res, ok, err, need, _>>=_, _>>_}
 use Rattle.values.specs.Transforms.{transforms, widthOf, transformOf}
-use Rattle.values.specs.Types.{types, typeNumber}
+use Rattle.values.specs.Types.{types, typeNumber, Layout, number, bytes, layout}
 use Rattle.values.specs.declared.datatypes.PrimitiveType.{PrimitiveType}
 use Rattle.values.specs.declared.datatypes.PrimitiveType.the-variants.{Int, Long, Date, Time, Timestamp, Timestamptz, TimestampNs, TimestamptzNs, String, Binary}
 use Rattle.values.specs.declared.error.ErrorKind.the-variants.{Malformed}
@@ -17,17 +18,17 @@ use Rattle.values.specs.declared.transform.Transform.{Transform}
 use Rattle.values.specs.declared.transform.Transform.the-variants.{Identity, Truncate, Year, Month, Day, Hour, Void, Unknown}
 
 -- ---- any numbered list
-module _ {X : Type 0} (number : X → ℕ) where
+module _ {X : Type 0} (numberOf : X → ℕ) where
   -- what stands under a number has that number
   abbrev pub Own : List (Numbered X) → Type 0
   Own [] = Unit {0}
-  Own (k is x ∷ xs) = (number x ≡ k) × Own xs
+  Own (k is x ∷ xs) = (numberOf x ≡ k) × Own xs
 
-  pub found-number : (xs : List (Numbered X)) (n : ℕ) (t : X) → Own xs → find xs n ≡ ok t → number t ≡ n
+  pub found-number : (xs : List (Numbered X)) (n : ℕ) (t : X) → Own xs → find xs n ≡ ok t → numberOf t ≡ n
   found-number [] n t own e = cc
   found-number (k is x ∷ xs) n t own e = go (eqb n k) refl e (found-number xs n t (own .1))
     where
-      go : (b : Bool) → eqb n k ≡ b → cond b (ok x) (find xs n) ≡ ok t → (find xs n ≡ ok t → number t ≡ n) → number t ≡ n
+      go : (b : Bool) → eqb n k ≡ b → cond b (ok x) (find xs n) ≡ ok t → (find xs n ≡ ok t → numberOf t ≡ n) → numberOf t ≡ n
       go true d e next = cc (eqb-true n k d)
       go false d e next = next e
 
@@ -117,3 +118,20 @@ module _ (n w : ℕ) (other : n ≡ 1 → ⊥) (some : w ≡ 0 → ⊥) where
       (none-plain
       (transforms w)
       (inr refl, (inl refl, (inr refl, (inr refl, (inr refl, (inr refl, (inr refl, (inr refl, tt)))))))))
+
+-- ---- a number has bytes
+abbrev pub Sized : Layout → Type 0
+Sized (number n) = 0 < n
+Sized (bytes n) = Unit {0}
+
+pub sized : (column : PrimitiveType) → Sized (layout column)
+sized Int = omega arith
+sized Long = omega arith
+sized Date = omega arith
+sized Time = omega arith
+sized Timestamp = omega arith
+sized Timestamptz = omega arith
+sized TimestampNs = omega arith
+sized TimestamptzNs = omega arith
+sized String = tt
+sized Binary = tt

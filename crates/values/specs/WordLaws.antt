@@ -98,12 +98,13 @@ pub half-twice : (n : ℕ) → 0 < n → 2 * half n ≡ 256 ^ n
 half-twice zero h = let no : ⊥ = omega arith in absurd no
 half-twice (suc n) h = omega arith
 
-pub signed-in-range : (n u : ℕ) → 0 < n → u < 256 ^ n → inRange n (signed n u) ≡ true
-signed-in-range n u h k = in-range-mag n (signed n u) .1 (go (ltb u (half n)) refl)
+-- whatever the number is: a pattern above those of n bytes is read as -1
+pub signed-in-range : (n u : ℕ) → 0 < n → inRange n (signed n u) ≡ true
+signed-in-range n u h = in-range-mag n (signed n u) .1 (go (ltb u (half n)) refl)
   where
     go : (t : Bool) → ltb u (half n) ≡ t → mag (cond t (pos u) (negsuc (256 ^ n - suc u))) < half n
     go true e = ltb-true u (half n) e
-    go false e = omega (arith, ltb-false u (half n) e, half-twice n h)
+    go false e = omega (arith, ltb-false u (half n) e, half-twice n h, one-le-pow n 256 (lit< tt))
 
 module _ (n : ℕ) (z : ℤ) (inside : inRange n z ≡ true) where
   small : mag z < half n

@@ -9,7 +9,7 @@ use Rattle.values.specs.declared.datatypes.PrimitiveType.{PrimitiveType}
 use Rattle.transform.specs.ResultType.{resultType}
 use Rattle.answers.specs.ReadyLaws.{literalsOk, ready-not-utf8, ready-no-type, ready-steps}
 use Rattle.answers.specs.SettledLaws.{settled-refused, settled-as}
-use Rattle.answers.proofs.Columns.{type-told}
+use Rattle.values.specs.AnswerLaws.{type-told}
 use Rattle.answers.proofs.leaf.project_leaf.Statement.{statement}
 use Rattle.answers.proofs.leaf.project_leaf.Tie as tie
 

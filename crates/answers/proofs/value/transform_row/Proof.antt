@@ -17,7 +17,7 @@ use Rattle.answers.specs.SettledLaws.{settled-refused, settled-as}
 use Rattle.answers.specs.ValueLaws.{row-not-utf8, row-no-type, row-of-numbers, row-of-bytes, row-sized}
 use Rattle.answers.specs.declared.answer.Answer.{Answer}
 use Rattle.sheet.proofs.Types.{number-type}
-use Rattle.answers.proofs.Columns.{type-told}
+use Rattle.values.specs.AnswerLaws.{type-told}
 use Rattle.answers.proofs.value.transform_row.Statement.{statement}
 use Rattle.answers.proofs.value.transform_row.Tie as tie
 

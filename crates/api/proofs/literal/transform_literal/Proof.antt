@@ -3,10 +3,10 @@ use denote.Ref.{now}
 use borrow.Author.Needs.{needs}
 use Rattle.values.specs.Outcomes.{ok, err}
 use Rattle.answers.specs.Answers.{asResult}
-use Rattle.answers.proofs.Columns.{type-told}
+use Rattle.values.specs.AnswerLaws.{type-told, transform-told}
 use Rattle.api.specs.Routines.{transformValue, valueBuffer}
 use Rattle.api.proofs.Buffers.{too-small, settled-in}
-use Rattle.api.proofs.LiteralReads.{transform-told, no-type, no-transform, value-answered}
+use Rattle.api.proofs.LiteralReads.{no-type, no-transform, value-answered}
 use Rattle.api.proofs.literal.transform_literal.Statement.{statement}
 use Rattle.api.proofs.literal.transform_literal.Tie as tie
 

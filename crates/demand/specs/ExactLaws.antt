@@ -22,12 +22,12 @@ use Rattle.projection.specs.declared.question.Question.{Question}
 use Rattle.projection.specs.declared.question.Question.the-variants.{Inclusive, Strict}
 use Rattle.sheet.specs.Sheets.{Head}
 use Rattle.write.specs.Written.{valueRecord, numberBytes}
 use Rattle.api.specs.Demand3.{RowOf, Accepts, SomeRow, AllRows, Holds, Lifts, OneAbove}
 use Rattle.answers.specs.Kinds.{numbers}
 use Rattle.sheet.specs.Values.{mapRow}
-use Rattle.api.proofs.KindLaws.{KindLaws, Returned}
-use Rattle.api.proofs.NumberKindLaws.{InType, lifted-four, number-row-starts, number-kind}
-use Rattle.api.proofs.RowLaws.{reading, Part, part-of, good-part, meets-predicate, same-part, some-row, all-rows, row-some, rows-all}
+use Rattle.demand.specs.KindLaws.{KindLaws, Returned}
+use Rattle.demand.specs.NumberKindLaws.{InType, lifted-four, number-row-starts, number-kind}
+use Rattle.demand.specs.RowLaws.{reading, Part, part-of, good-part, meets-predicate, same-part, some-row, all-rows, row-some, rows-all}
 
 -- ---- value records of four bytes
 module _ (to : PrimitiveType) (four : layout to ≡ number 4) where

@@ -18,12 +18,12 @@ use Rattle.sheet.specs.RecordLaws.{value-read}
 use Rattle.sheet.specs.Records.{recordSize}
 use Rattle.sheet.specs.SheetLaws.{Read, sheet-read, wider}
 use Rattle.sheet.specs.Sheets.{projectLimit, holdsLimit}
 use Rattle.api.specs.Demand3.{RowOf, Accepts, SomeRow, AllRows}
 use Rattle.api.specs.HoldsTest.{holdsTest}
 use Rattle.answers.specs.Kinds.{Kind}
 use Rattle.sheet.specs.Values.{mapRow}
-use Rattle.api.proofs.KindLaws.{KindLaws, Returned, HasPart, row-part, part-row}
-use Rattle.api.proofs.ValueLaws.{sheetOf, row-good, leaf-good, rowRecord, row-back, record-back, record-inj, sheet-length, holds-read, holds-written}
+use Rattle.demand.specs.KindLaws.{KindLaws, Returned, HasPart, row-part, part-row}
+use Rattle.demand.specs.ValueLaws.{sheetOf, row-good, leaf-good, rowRecord, row-back, record-back, record-inj, sheet-length, holds-read, holds-written}
 
 accepted : {r : Res Bool} {b : Bool} → r ≡ ok b → (r ≡ ok true) ↔ (b ≡ true)
 accepted e = (λ h. ok-inj (sym e ∙ h), λ h. e ∙ ap ok h)

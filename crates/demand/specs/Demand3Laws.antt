@@ -24,18 +24,18 @@ use Rattle.projection.specs.Steps.{some}
 use Rattle.projection.specs.declared.question.Question.{Question}
 use Rattle.projection.specs.declared.question.Question.the-variants.{Inclusive, Strict}
 use Rattle.sheet.specs.Sheets.{Head, head, sheet, projectLimit}
 use Rattle.api.specs.Demand3.{typeIn, transformIn, widthIn, Returns, Accepts, RowOf, NoRowLost, StrictIsSafe, Numeric, StrictIsExact, InclusiveIsExact, Demand3}
 use Rattle.sheet.specs.Values.{byLayout}
 use Rattle.answers.specs.Kinds.{Kind, numbers, byteStrings}
 use Rattle.answers.specs.Answers.{projected, projectedLeaf}
 use Rattle.api.specs.Routines.{projectSheet}
-use Rattle.api.proofs.BytesKindLaws.{bytes-type, bytes-values, all-parts, bytes-kind}
-use Rattle.api.proofs.ExactLaws as exact
-use Rattle.api.proofs.KindLaws.{KindLaws, Returned, returned}
-use Rattle.api.proofs.NumberKindLaws.{number-kind}
-use Rattle.api.proofs.RowLaws.{reading, good-leaf}
-use Rattle.api.proofs.RowLaws as rows
-use Rattle.api.proofs.ValueLaws.{sheetOf}
+use Rattle.demand.specs.BytesKindLaws.{bytes-type, bytes-values, all-parts, bytes-kind}
+use Rattle.demand.specs.ExactLaws as exact
+use Rattle.demand.specs.KindLaws.{KindLaws, Returned, returned}
+use Rattle.demand.specs.NumberKindLaws.{number-kind}
+use Rattle.demand.specs.RowLaws.{reading, good-leaf}
+use Rattle.demand.specs.RowLaws as rows
+use Rattle.demand.specs.ValueLaws.{sheetOf}
 
 -- ---- an answer sheet is one of a column of numbers, or of byte strings
 pub record By {A B : Type 0} (lay : ℕ → Layout) (kind : PrimitiveType → Transform → ℕ → Kind A B) (question : Question) (s q : List ℕ) : Type 0 where

@@ -20,12 +20,12 @@ use Rattle.sheet.specs.Records.{value}
 use Rattle.sheet.specs.Sheets.{head, sheet, projectLimit, holdsLimit}
 use Rattle.sheet.specs.Values.{eachLiteral, readRow}
 use Rattle.write.specs.Written.{valueRecord, answerSheet}
 use Rattle.api.specs.Demand3.{typeIn, transformIn, widthIn, RowOf}
 use Rattle.answers.specs.Kinds.{Kind}
 use Rattle.sheet.specs.Values.{mapRow, mapLiterals}
 use Rattle.answers.specs.Answers.{projected, transformed, transformedRow}
 use Rattle.api.specs.Routines.{transformValue}
-use Rattle.api.proofs.ValueLaws.{sheetOf, ValueLaws}
+use Rattle.demand.specs.ValueLaws.{sheetOf, ValueLaws}
 
 -- `to` is the result type
 pub record KindLaws {A B : Type 0} (column to : PrimitiveType) (transform : Transform) (k : Kind A B) : Type 1 where

@@ -7,12 +7,12 @@ use lib.ListN.{length, take, drop}
 use lib.Seq.{take-at}
 use borrow.Author.Tests.{le-ltb}
 use Rattle.projection.specs.declared.question.Question.{Question}
 use Rattle.api.specs.Demand3.{Returns}
 use Rattle.api.specs.Routines.{projectSheet, answered, leftIn}
 use Rattle.answers.specs.Leaves.{sheetBuffer}
 use Rattle.answers.specs.declared.answer.Answer.the-variants.{Written}
-use Rattle.api.proofs.Demand3Laws.{by-kind, numbersLaw, bytesLaw}
-use Rattle.api.proofs.RowLaws.{answer-length}
+use Rattle.demand.specs.Demand3Laws.{by-kind, numbersLaw, bytesLaw}
+use Rattle.demand.specs.RowLaws.{answer-length}
 
 module _ (question : Question) (s q : List ℕ) (e : Returns question s q) where
   -- every answer sheet fits the least buffer

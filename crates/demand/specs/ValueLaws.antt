@@ -8,7 +8,7 @@ use mathlib.Core.Path.{_≡_, refl, sym, ap, subst, _∙_}
 use lib.ListN.{length, length-map}
 use Rattle.values.specs.AscendingLaws.{AllOf}
 use Rattle.values.specs.Outcomes.{Res, ok, each, Row, missing, present}
-use Rattle.values.specs.OutcomeLaws.{ok-inj, going, gone, each-put, each-length}
+use Rattle.values.specs.OutcomeLaws.{ok-inj, going, gone, each-put, each-length, each-all}
 use Rattle.values.specs.Types.{layout, fits}
 use Rattle.values.specs.declared.datatypes.PrimitiveType.{PrimitiveType}
 use Rattle.values.specs.declared.transform.Transform.{Transform}
@@ -17,7 +17,6 @@ use Rattle.expr.specs.Holds.{Tests, holds}
 use Rattle.expr.specs.Predicates.{Predicate, unary, test, binary, set, literalsIn}
 use Rattle.projection.specs.LandingLaws.{OfPresent}
 use Rattle.projection.specs.LiteralLaws.{Landed}
-use Rattle.projection.specs.StepLaws.{each-all}
 use Rattle.sheet.specs.RecordLaws.{FitsRow}
 use Rattle.write.specs.RoundTripLaws.{value-back}
 use Rattle.sheet.specs.Records.{recordSize, value}

@@ -33,8 +33,8 @@ use Rattle.sheet.specs.Values.{readBytes}
 use Rattle.meets.specs.Tested.{testedSheet}
 use Rattle.answers.specs.Kinds.{byteStrings}
 use Rattle.answers.specs.Answers.{transformedRow}
-use Rattle.api.proofs.KindLaws.{KindLaws}
-use Rattle.api.proofs.ValueLaws.{ValueLaws}
+use Rattle.demand.specs.KindLaws.{KindLaws}
+use Rattle.demand.specs.ValueLaws.{ValueLaws}
 
 -- ---- the types of byte strings: 9 and 10, which know no days and no hours
 pub record BytesType (column : PrimitiveType) : Type 0 where

@@ -1,30 +1,27 @@
 -- Numbers and times are a lawful kind: what is read is in the column's type, and partition values and predicates are in the result type.
 -- Assumes nothing.
-use Prim.Native.Nat.{ℕ, _-_, _^_, suc, _<_}
-use native.Mathlib.Nat.{one-le-pow}
+use Prim.Native.Nat.{ℕ}
 use native.Mathlib.Omega.{arith}
-use mathlib.Core.Bool.{Bool, true, false, cond, false≢true}
+use mathlib.Core.Bool.{true, false, false≢true}
 use mathlib.Core.Logic.{_⊎_, inl, inr, ⊎-elim}
 use mathlib.Core.Path.{_≡_, refl, sym, ap, subst, _∙_}
-use lib.Dec.{ltb, lit<}
-use lib.IntN.{ℤ, pos, negsuc}
+use lib.IntN.{ℤ}
 use lib.ListN.{length}
-use lib.Signed.{mag}
-use borrow.Author.Tests.{ltb-true, ltb-false, eq-eqb}
+use borrow.Author.Tests.{eq-eqb}
 use Rattle.values.specs.Outcomes.{ok, Row, missing, present}
 use Rattle.values.specs.OutcomeLaws.{ok-inj, passed, gone}
-use Rattle.values.specs.RangeLaws.{in-range-mag}
 use Rattle.values.specs.TestLaws.{clash}
-use Rattle.values.specs.Types.{Layout, number, bytes, layout, half, fits, inRange, inLayout, inType}
-use Rattle.values.specs.Words.{leNumber, signed, unsigned}
-use Rattle.values.specs.WordLaws.{half-twice, length-bytes, signed-bytes}
+use Rattle.values.specs.Types.{Layout, number, bytes, layout, fits, inLayout, inType}
+use Rattle.values.specs.Words.{leNumber, unsigned}
+use Rattle.values.specs.TypesLaws.{Sized, sized}
+use Rattle.values.specs.WordLaws.{length-bytes, signed-bytes, signed-in-range}
 use Rattle.values.specs.declared.datatypes.PrimitiveType.{PrimitiveType}
-use Rattle.values.specs.declared.datatypes.PrimitiveType.the-variants.{Int, Long, Date, Time, Timestamp, Timestamptz, TimestampNs, TimestamptzNs, String, Binary}
 use Rattle.values.specs.declared.error.ErrorKind.the-variants.{NoResultType}
 use Rattle.values.specs.declared.transform.Transform.{Transform}
 use Rattle.values.specs.declared.transform.Transform.the-variants.{Identity, Truncate, Year, Month, Day, Hour, Void, Unknown}
-use Rattle.transform.specs.Partition.{checked, ofRow, transformNumber, partition, numberPartition}
+use Rattle.transform.specs.Partition.{ofRow, transformNumber, numberPartition}
 use Rattle.transform.specs.PartitionLaws.{number-starts}
+use Rattle.transform.specs.RowLaws.{number-row}
 use Rattle.transform.specs.ResultType.{truncates, resultType}
 use Rattle.transform.specs.Temporal.{unitOf, perDay, perHour}
 use Rattle.expr.specs.Holds.{numberTests}
@@ -41,27 +38,10 @@ use Rattle.write.specs.Written.{numberBytes}
 use Rattle.meets.specs.Tested.{testedSheet}
 use Rattle.answers.specs.Kinds.{numbers}
 use Rattle.answers.specs.Answers.{transformedRow}
-use Rattle.api.proofs.KindLaws.{KindLaws}
-use Rattle.api.proofs.ValueLaws.{ValueLaws}
+use Rattle.demand.specs.KindLaws.{KindLaws}
+use Rattle.demand.specs.ValueLaws.{ValueLaws}
 
 -- ---- the number types
--- a number has bytes
-abbrev pub Sized : Layout → Type 0
-Sized (number n) = 0 < n
-Sized (bytes n) = Unit {0}
-
-pub sized : (column : PrimitiveType) → Sized (layout column)
-sized Int = omega arith
-sized Long = omega arith
-sized Date = omega arith
-sized Time = omega arith
-sized Timestamp = omega arith
-sized Timestamptz = omega arith
-sized TimestampNs = omega arith
-sized TimestamptzNs = omega arith
-sized String = tt
-sized Binary = tt
-
 -- a transform keeps the column's type, or gives a type of four bytes, as those that are lifted do
 result-layout : (column to : PrimitiveType) (transform : Transform) → resultType transform column ≡ ok to
     → ((column ≡ to) × (lifted column transform ≡ false)) ⊎ (layout to ≡ number 4)
@@ -86,14 +66,6 @@ module _ (column to : PrimitiveType) (transform : Transform) (result : resultTyp
 abbrev pub InType : PrimitiveType → ℤ → Type 0
 InType ty z = inType ty z ≡ true
 
--- whatever its bytes are: a pattern above those of n bytes is read as -1
-pub signed-inside : (n u : ℕ) → 0 < n → inRange n (signed n u) ≡ true
-signed-inside n u h = in-range-mag n (signed n u) .1 (go (ltb u (half n)) refl)
-  where
-    go : (t : Bool) → ltb u (half n) ≡ t → mag (cond t (pos u) (negsuc (256 ^ n - suc u))) < half n
-    go true e = ltb-true u (half n) e
-    go false e = omega (arith, ltb-false u (half n) e, half-twice n h, one-le-pow n 256 (lit< tt))
-
 pub number-fits : (l : Layout) (z : ℤ) → inLayout l z ≡ true → fits l (length (numberBytes l z)) ≡ true
 number-fits (number n) z h = eq-eqb _ n (length-bytes n (unsigned n z))
 number-fits (bytes n) z h = absurd (false≢true h)
@@ -103,7 +75,7 @@ unfoldable pub number-values : (column : PrimitiveType) (n : ℕ) → layout col
 unfolding inType testedSheet
 number-values column n is = record {
   Good = InType column;
-  reads = λ bs z h e. rw (← ok-inj e, is) (signed-inside n (leNumber bs) (subst Sized is (sized column)));
+  reads = λ bs z h e. rw (← ok-inj e, is) (signed-in-range n (leNumber bs) (subst Sized is (sized column)));
   fit = λ z h. number-fits (layout column) z h;
   back = λ z h. rw is (ap ok (signed-bytes n z (rw is at h)));
   tests = λ transform leaf row. rw is;
@@ -115,8 +87,7 @@ row-starts column transform missing p e = tt
 row-starts column transform (present v) p e = number-starts column transform v e
 
 pub number-row-starts : (column : PrimitiveType) (transform : Transform) (r p : Row ℤ) → numberPartition column transform r ≡ ok p → OfPresent (InType column) r
-unfolding numberPartition partition
-number-row-starts column transform r p e = row-starts column transform r p (gone (checked column transform) _ e .2)
+number-row-starts column transform r p e = row-starts column transform r p (number-row column transform r p e)
 
 -- ---- the kind
 -- at most 64 literals come to at most 128
