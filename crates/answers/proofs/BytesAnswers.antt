@@ -16,19 +16,19 @@ use Rattle.values.specs.declared.error.ErrorKind.{ErrorKind}
 use Rattle.values.specs.declared.transform.Transform.{Transform}
 use Rattle.values.specs.declared.transform.Transform.the-variants.{Identity}
 use Rattle.values.proofs.transform.Transform as transforms
-use Rattle.transform.specs.ResultType.{resultType}
+use Rattle.partition.specs.ResultType.{resultType}
 use Rattle.expr.specs.declared.operator.PredicateOperator.{PredicateOperator}
-use Rattle.projection.specs.Answers.{bytesProjected, NoLonger, OneLiteral}
-use Rattle.projection.specs.declared.bytes.BytesProjection.{BytesProjection}
-use Rattle.projection.specs.declared.bytes.BytesProjection.the-variants.{Prefix, Err}
+use Rattle.strings.specs.Answers.{bytesProjected, NoLonger, OneLiteral}
+use Rattle.strings.specs.declared.steps.BytesProjection.{BytesProjection}
+use Rattle.strings.specs.declared.steps.BytesProjection.the-variants.{Prefix, Err}
 use Rattle.sheet.specs.ReadAnswers.{Parts, partsAt}
 use Rattle.sheet.specs.Records.{recordSize}
 use Rattle.sheet.specs.Sheets.{holdsLimit}
 use Rattle.write.specs.Written.{answerBytes}
 use Rattle.sets.specs.FilledLaws.{parts-length}
 use Rattle.sets.specs.Sets.{collected, FilledParts}
-use Rattle.sets.specs.declared.numbers.Collected.{Collected}
-use Rattle.sets.specs.declared.numbers.Collected.the-variants as collected-as
+use Rattle.sets.specs.declared.number.Collected.{Collected}
+use Rattle.sets.specs.declared.number.Collected.the-variants as collected-as
 use Rattle.answers.specs.Answers.{Settled}
 use Rattle.answers.specs.BytesLeafLaws.{by-transform, answer-length, parts-short, one-written, setWritten}
 use Rattle.answers.specs.CollectedLaws.{found-count, found-error}

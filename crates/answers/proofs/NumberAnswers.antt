@@ -17,9 +17,9 @@ use Rattle.expr.specs.PredicateLaws.{operator-of}
 use Rattle.expr.specs.Predicates.{test, binary, set}
 use Rattle.expr.specs.declared.operator.PredicateOperator.{PredicateOperator}
 use Rattle.expr.specs.declared.operator.PredicateOperator.the-variants.{In}
-use Rattle.projection.specs.Answers.{numberProjected}
-use Rattle.projection.specs.declared.number.NumberProjection.{NumberProjection}
-use Rattle.projection.specs.declared.number.NumberProjection.the-variants as number-projection
+use Rattle.numbers.specs.Answers.{numberProjected}
+use Rattle.numbers.specs.declared.steps.NumberProjection.{NumberProjection}
+use Rattle.numbers.specs.declared.steps.NumberProjection.the-variants as number-projection
 use Rattle.sheet.specs.Records.{recordSize}
 use Rattle.write.specs.Written.{answerBytes, numberBytes}
 use Rattle.answers.specs.Answers.{Settled}

@@ -20,13 +20,13 @@ use Rattle.values.specs.declared.datatypes.TypeResult.{TypeResult}
 use Rattle.values.specs.declared.datatypes.TypeResult.the-variants as type-result
 use Rattle.values.specs.declared.error.ErrorKind.{ErrorKind}
 use Rattle.values.specs.declared.transform.Transform.{Transform}
-use Rattle.transform.specs.Answers.{numberResult, bytesResult, bytesRow}
-use Rattle.transform.specs.Partition.{numberPartition, bytesPartition}
-use Rattle.transform.specs.ResultType.{resultType}
-use Rattle.transform.specs.declared.partition.BytesResult.{BytesResult}
-use Rattle.transform.specs.declared.partition.BytesResult.the-variants as bytes-result
-use Rattle.transform.specs.declared.truncate.NumberResult.{NumberResult}
-use Rattle.transform.specs.declared.truncate.NumberResult.the-variants as number-result
+use Rattle.partition.specs.Answers.{numberResult, bytesResult, bytesRow}
+use Rattle.partition.specs.Partition.{numberPartition, bytesPartition}
+use Rattle.partition.specs.ResultType.{resultType}
+use Rattle.partition.specs.declared.bytes.BytesResult.{BytesResult}
+use Rattle.partition.specs.declared.bytes.BytesResult.the-variants as bytes-result
+use Rattle.partition.specs.declared.number.NumberResult.{NumberResult}
+use Rattle.partition.specs.declared.number.NumberResult.the-variants as number-result
 use Rattle.projection.specs.LandingLaws.{number-partition-lands}
 use Rattle.sheet.specs.PartLaws.{ValueContent, value-content}
 use Rattle.sheet.specs.ReadAnswers.{valueResult}

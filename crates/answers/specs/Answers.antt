@@ -8,7 +8,7 @@ use Rattle.values.specs.Types.{layout}
 use Rattle.values.specs.Words.{over}
 use Rattle.values.specs.declared.datatypes.PrimitiveType.{PrimitiveType}
 use Rattle.values.specs.declared.transform.Transform.{Transform}
-use Rattle.transform.specs.ResultType.{resultType}
+use Rattle.partition.specs.ResultType.{resultType}
 use Rattle.expr.specs.Predicates.{Predicate}
 use Rattle.projection.specs.Steps.{Projected, some, none, mapped}
 use Rattle.projection.specs.declared.question.Question.{Question}

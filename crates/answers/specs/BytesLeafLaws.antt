@@ -18,18 +18,19 @@ use Rattle.values.specs.declared.datatypes.PrimitiveType.{PrimitiveType}
 use Rattle.values.specs.declared.datatypes.PrimitiveType.the-variants.{Int, Long, Date, Time, Timestamp, Timestamptz, TimestampNs, TimestamptzNs, String, Binary}
 use Rattle.values.specs.declared.transform.Transform.{Transform}
 use Rattle.values.specs.declared.transform.Transform.the-variants.{Identity, Truncate, Year, Month, Day, Hour, Void, Unknown}
-use Rattle.transform.specs.ResultType.{resultType}
+use Rattle.partition.specs.ResultType.{resultType}
 use Rattle.transform.specs.Temporal.{unitOf}
 use Rattle.transform.specs.declared.temporal.TimeUnit.the-variants.{Neither}
 use Rattle.expr.specs.Operators.{operatorNumber, SetOperator, within, outside, Arity, none, one, many, arity, operatorOf}
 use Rattle.expr.specs.PredicateLaws.{operator-of}
 use Rattle.expr.specs.Predicates.{test}
 use Rattle.expr.specs.declared.operator.PredicateOperator.{PredicateOperator}
-use Rattle.projection.specs.Answers.{oneTest, takesOne, bytesLeaf, bytesProjected}
+use Rattle.projection.specs.Answers.{oneTest, takesOne}
+use Rattle.strings.specs.Answers.{bytesLeaf, bytesProjected}
 use Rattle.projection.specs.Projection.{inOrder, through, byTransform, bytesStep}
 use Rattle.projection.specs.Steps.{Projected, some, mapped}
-use Rattle.projection.specs.declared.bytes.BytesProjection.{BytesProjection}
-use Rattle.projection.specs.declared.bytes.BytesProjection.the-variants.{Prefix}
+use Rattle.strings.specs.declared.steps.BytesProjection.{BytesProjection}
+use Rattle.strings.specs.declared.steps.BytesProjection.the-variants.{Prefix}
 use Rattle.projection.specs.declared.question.Question.{Question}
 use Rattle.projection.specs.declared.question.Question.the-variants.{Inclusive, Strict}
 use Rattle.sheet.specs.ReadAnswers.{contentAt, contentsAt, PartAt, partAt, Parts, partsAt}

@@ -7,7 +7,7 @@ use lib.ListN.{length}
 use Rattle.values.specs.Outcomes.{Res, ok, err}
 use Rattle.values.specs.declared.error.ErrorKind.{ErrorKind}
 use Rattle.sets.specs.Sets.{collected}
-use Rattle.sets.specs.declared.numbers.Collected.the-variants as collected-as
+use Rattle.sets.specs.declared.number.Collected.the-variants as collected-as
 
 module _ {A : Type 0} where
   pub found-count : (found : Res (List A)) {n : ℕ} → collected found ≡ collected-as.Count n → (zs : List A) × (found ≡ ok zs) × (n ≡ length zs)

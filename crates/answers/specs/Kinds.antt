@@ -6,7 +6,7 @@ use Rattle.values.specs.Outcomes.{Res, Row, missing, present}
 use Rattle.values.specs.Types.{Layout, number, bytes, layout}
 use Rattle.values.specs.declared.datatypes.PrimitiveType.{PrimitiveType}
 use Rattle.values.specs.declared.transform.Transform.{Transform}
-use Rattle.transform.specs.Partition.{numberPartition, bytesPartition}
+use Rattle.partition.specs.Partition.{numberPartition, bytesPartition}
 use Rattle.expr.specs.Predicates.{Predicate, unary, test, binary, set}
 use Rattle.projection.specs.Projection.{projectNumbers, projectBytes}
 use Rattle.projection.specs.Steps.{Projected}

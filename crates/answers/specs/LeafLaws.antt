@@ -16,8 +16,8 @@ use Rattle.values.specs.declared.error.ErrorKind.the-variants.{NotUtf8, Feature
 use Rattle.values.specs.declared.order.Ordering.{Ordering}
 use Rattle.values.specs.declared.transform.Transform.{Transform}
 use Rattle.values.specs.declared.transform.Transform.the-variants.{Identity, Truncate, Year, Month, Day, Hour, Void, Unknown}
-use Rattle.transform.specs.Partition.{known, checked}
-use Rattle.transform.specs.ResultType.{resultType}
+use Rattle.partition.specs.Partition.{known, checked}
+use Rattle.partition.specs.ResultType.{resultType}
 use Rattle.expr.specs.Operators.{Arity, none, one, many, arity}
 use Rattle.expr.specs.PredicateLaws.{arity-of}
 use Rattle.expr.specs.Predicates.{Test, Predicate, unary, test, binary, set, operatorIn, literalsIn}

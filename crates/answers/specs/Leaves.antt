@@ -12,7 +12,7 @@ use Rattle.values.specs.Words.{leNumber, signed}
 use Rattle.values.specs.declared.datatypes.PrimitiveType.{PrimitiveType}
 use Rattle.values.specs.declared.transform.Transform.{Transform}
 use Rattle.values.specs.declared.transform.Transform.the-variants.{Identity, Truncate, Year, Month, Day, Hour, Void, Unknown}
-use Rattle.transform.specs.ResultType.{resultType}
+use Rattle.partition.specs.ResultType.{resultType}
 use Rattle.expr.specs.Operators.{Arity, none, one, many, within, outside, arity}
 use Rattle.expr.specs.Predicates.{Test, Predicate, unary, test, binary, set}
 use Rattle.expr.specs.declared.operator.PredicateOperator.{PredicateOperator}
@@ -20,8 +20,8 @@ pub use Rattle.projection.specs.Answers.{takesOne}
 use Rattle.projection.specs.Lifting.{lifted}
 use Rattle.projection.specs.Projection.{byTransform, numberStep, bytesStep}
 use Rattle.projection.specs.Steps.{Projected, some, mapped}
-use Rattle.projection.specs.declared.number.NumberProjection.{NumberProjection}
-use Rattle.projection.specs.declared.number.NumberProjection.the-variants as number-projection
+use Rattle.numbers.specs.declared.steps.NumberProjection.{NumberProjection}
+use Rattle.numbers.specs.declared.steps.NumberProjection.the-variants as number-projection
 use Rattle.projection.specs.declared.question.Question.{Question}
 use Rattle.projection.specs.declared.question.Question.the-variants.{Inclusive, Strict}
 use Rattle.sheet.specs.ReadAnswers.{Placed, contentsAt, numbersAt, takes}

@@ -18,15 +18,16 @@ use Rattle.values.specs.Words.{over, unsigned}
 use Rattle.values.specs.declared.datatypes.PrimitiveType.{PrimitiveType}
 use Rattle.values.specs.declared.transform.Transform.{Transform}
 use Rattle.values.specs.declared.transform.Transform.the-variants.{Identity}
-use Rattle.transform.specs.ResultType.{resultType}
+use Rattle.partition.specs.ResultType.{resultType}
 use Rattle.expr.specs.Operators.{Binary as BinaryOperator, one, within, arity}
 use Rattle.expr.specs.Predicates.{Test, Predicate, test, binary, set, operatorIn, literalsIn}
-use Rattle.projection.specs.Answers.{oneTest, numberLeaf, OneIn, numberProjected}
+use Rattle.projection.specs.Answers.{oneTest}
+use Rattle.numbers.specs.Answers.{numberLeaf, OneIn, numberProjected}
 use Rattle.projection.specs.LandingLaws.{numbers-land}
 use Rattle.projection.specs.Projection.{byTransform, numberStep, projectNumbers}
 use Rattle.projection.specs.Steps.{some, mapped}
-use Rattle.projection.specs.declared.number.NumberProjection.{NumberProjection}
-use Rattle.projection.specs.declared.number.NumberProjection.the-variants as number-projection
+use Rattle.numbers.specs.declared.steps.NumberProjection.{NumberProjection}
+use Rattle.numbers.specs.declared.steps.NumberProjection.the-variants as number-projection
 use Rattle.sheet.specs.ReadAnswers.{numberAt}
 use Rattle.sheet.specs.Records.{recordSize}
 use Rattle.sheet.specs.SheetLaws.{Fits}

@@ -28,7 +28,7 @@ use Rattle.sheet.specs.Records.{recordSize}
 use Rattle.write.specs.Written.{answerBytes, numberBytes}
 use Rattle.sets.specs.SetLaws.{asSet, number-within, number-outside, number-set-identity, number-set-lands}
 use Rattle.sets.specs.Sets.{numberSet, collected, Filled}
-use Rattle.sets.specs.declared.numbers.Collected.the-variants as collected-as
+use Rattle.sets.specs.declared.number.Collected.the-variants as collected-as
 use Rattle.answers.specs.Answers.{Settled}
 use Rattle.answers.specs.CollectedLaws.{found-count, found-error}
 use Rattle.answers.specs.Leaves.{takesMany, numbersWritten, numberSteps, numberLeafAt, liftsFor, hasSteps, keptBy, keeps, ReadyLeaf, NumberColumn}

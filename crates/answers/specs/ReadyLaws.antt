@@ -10,7 +10,7 @@ use Rattle.values.specs.declared.datatypes.PrimitiveType.the-variants.{String}
 use Rattle.values.specs.declared.error.ErrorKind.{ErrorKind}
 use Rattle.values.specs.declared.error.ErrorKind.the-variants.{NotUtf8}
 use Rattle.values.specs.declared.transform.Transform.{Transform}
-use Rattle.transform.specs.ResultType.{resultType}
+use Rattle.partition.specs.ResultType.{resultType}
 use Rattle.expr.specs.Operators.{arity}
 use Rattle.expr.specs.Predicates.{Predicate, literalsIn}
 use Rattle.expr.specs.declared.operator.PredicateOperator.{PredicateOperator}

@@ -8,7 +8,7 @@ use Rattle.values.specs.Types.{layout}
 use Rattle.values.specs.Words.{leNumber, signed}
 use Rattle.values.specs.declared.datatypes.PrimitiveType.{PrimitiveType}
 use Rattle.values.specs.declared.transform.Transform.{Transform}
-use Rattle.transform.specs.Partition.{numberPartition, bytesPartition}
+use Rattle.partition.specs.Partition.{numberPartition, bytesPartition}
 use Rattle.projection.specs.Steps.{Projected}
 use Rattle.sheet.specs.Records.{value}
 use Rattle.write.specs.Written.{valueRecord, numberBytes}

@@ -20,7 +20,7 @@ use Rattle.expr.specs.Operators as operators
 use Rattle.expr.specs.Operators.{Unary, SetOperator, within, outside, Arity, one, many, arity, operatorOf}
 use Rattle.expr.specs.PredicateLaws.{operator-of}
 use Rattle.expr.specs.Predicates.{Test, Predicate, unary, test, set}
-use Rattle.projection.specs.BoundaryLaws.{lifted-none}
+use Rattle.numbers.specs.BoundaryLaws.{lifted-none}
 use Rattle.projection.specs.Lifting.{lifted}
 use Rattle.projection.specs.Projection.{through, byTransform, numberStep, bytesStep}
 use Rattle.projection.specs.Steps.{Projected, some, none}

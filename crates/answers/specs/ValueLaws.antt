@@ -14,9 +14,9 @@ use Rattle.values.specs.declared.datatypes.PrimitiveType.the-variants.{String}
 use Rattle.values.specs.declared.error.ErrorKind.{ErrorKind}
 use Rattle.values.specs.declared.error.ErrorKind.the-variants.{NotUtf8}
 use Rattle.values.specs.declared.transform.Transform.{Transform}
-use Rattle.transform.specs.BytesPartitionLaws.{bytes-begin}
-use Rattle.transform.specs.Partition.{checked, partition, numberPartition, bytesPartition}
-use Rattle.transform.specs.ResultType.{resultType}
+use Rattle.partition.specs.BytesPartitionLaws.{bytes-begin}
+use Rattle.partition.specs.Partition.{checked, partition, numberPartition, bytesPartition}
+use Rattle.partition.specs.ResultType.{resultType}
 use Rattle.projection.specs.Steps.{some}
 use Rattle.sheet.specs.Records.{value}
 use Rattle.write.specs.Written.{valueRecord, numberBytes}

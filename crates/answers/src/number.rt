@@ -2,12 +2,12 @@
 use crate::answer::Answer;
 use crate::leaf::Leaf;
 use expr::operator::PredicateOperator;
-use projection::number::NumberProjection;
-use projection::number::is_lifted;
-use projection::number::project_number;
+use numbers::steps::NumberProjection;
+use numbers::steps::is_lifted;
+use numbers::steps::project_number;
 use projection::question::Question;
-use sets::numbers::Collected;
-use sets::numbers::project_set_expr;
+use sets::number::Collected;
+use sets::number::project_set_expr;
 use sheet::literal::number_of;
 use sheet::records::RECORD_SIZE;
 use values::datatypes::PrimitiveType;
@@ -20,7 +20,7 @@ ghost use mathlib.Core.Path.{_≡_};
 ghost use Prim.Native.Nat.{_≤_};
 ghost use lib.ListN.{length};
 ghost use Rattle.expr.specs.Operators.{arity};
-ghost use Rattle.projection.specs.Answers.{numberProjected};
+ghost use Rattle.numbers.specs.Answers.{numberProjected};
 ghost use Rattle.answers.specs.Answers.{Settled};
 ghost use Rattle.answers.specs.Leaves.{numberSteps, numberLeafAt, oneWritten, NumbersIn, sheetBuffer, keeps, takesOne, takesMany, NumberColumn, ReadyLeaf, liftsFor};
 

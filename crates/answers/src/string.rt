@@ -1,12 +1,12 @@
 // A leaf over a String or Binary column.
 use crate::answer::Answer;
 use crate::leaf::Leaf;
-use projection::bytes::BytesProjection;
-use projection::bytes::project_bytes;
-use sets::numbers::Collected;
-use sets::strings::project_set_expr;
+use sets::number::Collected;
+use sets::string::project_set_expr;
 use sheet::literal::content_of;
 use sheet::records::RECORD_SIZE;
+use strings::steps::BytesProjection;
+use strings::steps::project_bytes;
 use values::datatypes::PrimitiveType;
 use values::transform::Transform;
 use write::answer::put_one_string;
@@ -17,7 +17,7 @@ ghost use Prim.Native.Nat.{_≤_};
 ghost use lib.ListN.{length};
 ghost use Rattle.values.specs.Types.{contentSize};
 ghost use Rattle.expr.specs.Operators.{arity};
-ghost use Rattle.projection.specs.Answers.{bytesProjected, NoLonger, OneLiteral};
+ghost use Rattle.strings.specs.Answers.{bytesProjected, NoLonger, OneLiteral};
 ghost use Rattle.answers.specs.Answers.{Settled};
 ghost use Rattle.answers.specs.Leaves.{byteSteps, bytesLeafAt, oneBytesWritten, sheetBuffer, keeps, takesOne, takesMany, BytesColumn, ReadyLeaf};
 

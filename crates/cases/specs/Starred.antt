@@ -17,8 +17,8 @@ use Rattle.transform.specs.Calendar.{inCalendar, shift, civilYear, civilMonth, 
 use Rattle.transform.specs.Count.{countOff, before}
 use Rattle.transform.specs.Floor.{floorDiv, floorMod}
 use Rattle.transform.specs.Gregorian.{leap, yearLength, monthLength, cycleYear, cycleDay, yearAt, monthIn, monthAt}
-use Rattle.transform.specs.Partition.{transformNumber, transformBytes, checked, partition, numberPartition, bytesPartition}
-use Rattle.transform.specs.ResultType.{resultType}
+use Rattle.partition.specs.Partition.{transformNumber, transformBytes, checked, partition, numberPartition, bytesPartition}
+use Rattle.partition.specs.ResultType.{resultType}
 use Rattle.transform.specs.Temporal.{dayOf, hourOf}
 use Rattle.transform.specs.Truncate.{truncated, firstCodePoints}
 use Rattle.expr.specs.declared.operator.PredicateOperator.{PredicateOperator}

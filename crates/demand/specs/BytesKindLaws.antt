@@ -16,8 +16,8 @@ use Rattle.values.specs.declared.datatypes.PrimitiveType.the-variants.{Int, Lon
 use Rattle.values.specs.declared.error.ErrorKind.the-variants.{NotUtf8, NoResultType}
 use Rattle.values.specs.declared.transform.Transform.{Transform}
 use Rattle.values.specs.declared.transform.Transform.the-variants.{Identity, Truncate, Year, Month, Day, Hour, Void, Unknown}
-use Rattle.transform.specs.Partition.{bytesPartition}
-use Rattle.transform.specs.ResultType.{truncates, resultType}
+use Rattle.partition.specs.Partition.{bytesPartition}
+use Rattle.partition.specs.ResultType.{truncates, resultType}
 use Rattle.transform.specs.Temporal.{unitOf}
 use Rattle.transform.specs.declared.temporal.TimeUnit.the-variants.{Neither}
 use Rattle.expr.specs.Holds.{bytesTests}

@@ -14,7 +14,7 @@ use Rattle.values.specs.Types.{Layout, number, bytes, layout, types, typeNumber
 use Rattle.values.specs.TypesLaws.{type-number}
 use Rattle.values.specs.declared.datatypes.PrimitiveType.{PrimitiveType}
 use Rattle.values.specs.declared.transform.Transform.{Transform}
-use Rattle.transform.specs.Partition.{bytesPartition}
+use Rattle.partition.specs.Partition.{bytesPartition}
 use Rattle.expr.specs.Holds.{bytesTests}
 use Rattle.expr.specs.Predicates.{Predicate, literalsIn}
 use Rattle.projection.specs.Demand.{RowHeld, HeldIn}

@@ -12,9 +12,9 @@ use Rattle.values.specs.Types.{number, layout, inType}
 use Rattle.values.specs.WordLaws.{signed-bytes}
 use Rattle.values.specs.declared.datatypes.PrimitiveType.{PrimitiveType}
 use Rattle.values.specs.declared.transform.Transform.{Transform}
-use Rattle.transform.specs.Partition.{numberPartition}
+use Rattle.partition.specs.Partition.{numberPartition}
 use Rattle.projection.specs.Demand as over-values
-use Rattle.transform.specs.ResultType.{resultType}
+use Rattle.partition.specs.ResultType.{resultType}
 use Rattle.projection.specs.DemandLaws.{numbers-strict-exact, numbers-inclusive-exact}
 use Rattle.projection.specs.LandingLaws.{OfPresent, number-partition-lands}
 use Rattle.projection.specs.Lifting.{lifted}

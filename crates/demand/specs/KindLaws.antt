@@ -9,7 +9,7 @@ use Rattle.values.specs.OutcomeLaws.{ok-inj, going, gone}
 use Rattle.values.specs.Types.{layout}
 use Rattle.values.specs.declared.datatypes.PrimitiveType.{PrimitiveType}
 use Rattle.values.specs.declared.transform.Transform.{Transform}
-use Rattle.transform.specs.ResultType.{resultType}
+use Rattle.partition.specs.ResultType.{resultType}
 use Rattle.expr.specs.Holds.{Tests}
 use Rattle.expr.specs.Predicates.{Predicate}
 use Rattle.projection.specs.LandingLaws.{OfPresent}

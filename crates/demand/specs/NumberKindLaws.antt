@@ -19,10 +19,10 @@ use Rattle.values.specs.declared.datatypes.PrimitiveType.{PrimitiveType}
 use Rattle.values.specs.declared.error.ErrorKind.the-variants.{NoResultType}
 use Rattle.values.specs.declared.transform.Transform.{Transform}
 use Rattle.values.specs.declared.transform.Transform.the-variants.{Identity, Truncate, Year, Month, Day, Hour, Void, Unknown}
-use Rattle.transform.specs.Partition.{ofRow, transformNumber, numberPartition}
-use Rattle.transform.specs.PartitionLaws.{number-starts}
-use Rattle.transform.specs.RowLaws.{number-row}
-use Rattle.transform.specs.ResultType.{truncates, resultType}
+use Rattle.partition.specs.Partition.{ofRow, transformNumber, numberPartition}
+use Rattle.partition.specs.PartitionLaws.{number-starts}
+use Rattle.partition.specs.RowLaws.{number-row}
+use Rattle.partition.specs.ResultType.{truncates, resultType}
 use Rattle.transform.specs.Temporal.{unitOf, perDay, perHour}
 use Rattle.expr.specs.Holds.{numberTests}
 use Rattle.expr.specs.Predicates.{Predicate}

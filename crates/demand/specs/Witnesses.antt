@@ -16,8 +16,8 @@ use Rattle.transform.specs.Calendar.{inCalendar, shift, civilYear, yearOf}
 use Rattle.transform.specs.Count.{countOff}
 use Rattle.transform.specs.Floor.{floorDiv, floorMod}
 use Rattle.transform.specs.Gregorian.{leap, yearLength, cycleYear, yearAt}
-use Rattle.transform.specs.Partition.{transformNumber, checked, partition, numberPartition}
-use Rattle.transform.specs.ResultType.{resultType}
+use Rattle.partition.specs.Partition.{transformNumber, checked, partition, numberPartition}
+use Rattle.partition.specs.ResultType.{resultType}
 use Rattle.transform.specs.Temporal.{dayOf}
 use Rattle.transform.specs.Truncate.{truncated}
 use Rattle.expr.specs.Operators.{atMost, less, within}

@@ -5,27 +5,11 @@ use mathlib.Core.List.{List, [], _∷_}
 use mathlib.Core.Path.{_≡_}
 use lib.IntN.{ℤ, sucℤ, predℤ}
 use lib.ListN.{length, take}
-use Rattle.values.specs.Outcomes.{Res, ok, err, _>>=_}
-use Rattle.values.specs.Types.{inType}
-use Rattle.values.specs.declared.datatypes.PrimitiveType.{PrimitiveType}
-use Rattle.values.specs.declared.datatypes.PrimitiveType.the-variants.{Long}
-use Rattle.values.specs.declared.error.ErrorKind.the-variants.{Overflow}
-use Rattle.values.specs.declared.transform.Transform.{Transform}
-use Rattle.values.specs.declared.transform.Transform.the-variants.{Truncate}
+use Rattle.values.specs.Outcomes.{_>>=_}
 use Rattle.expr.specs.Operators as operators
-use Rattle.expr.specs.Operators.{Arity, arity}
-use Rattle.expr.specs.Predicates.{Test, binary, set}
-use Rattle.expr.specs.declared.operator.PredicateOperator.{PredicateOperator}
-use Rattle.expr.specs.declared.operator.PredicateOperator.the-variants.{LessThan, LessThanOrEq, GreaterThan, GreaterThanOrEq, Eq, NotEq, StartsWith, NotStartsWith}
-use Rattle.projection.specs.Projection.{numberStep, bytesStep, bytesUnder, strictLength}
-use Rattle.projection.specs.ByteSteps.{byLength}
+use Rattle.expr.specs.Operators.{Arity}
+use Rattle.expr.specs.Predicates.{Test, binary}
 use Rattle.projection.specs.Steps.{Projected, some, none}
-use Rattle.projection.specs.declared.bytes.BytesProjection.{BytesProjection}
-use Rattle.projection.specs.declared.bytes.BytesProjection.the-variants as bytes-projection
-use Rattle.projection.specs.declared.number.Boundary.{Boundary}
-use Rattle.projection.specs.declared.number.Boundary.the-variants as boundary
-use Rattle.projection.specs.declared.number.NumberProjection.{NumberProjection}
-use Rattle.projection.specs.declared.number.NumberProjection.the-variants as number-projection
 use Rattle.projection.specs.declared.question.Question.{Question}
 use Rattle.projection.specs.declared.question.Question.the-variants.{Inclusive, Strict}
 
@@ -44,110 +28,3 @@ takesOne (operators.many o) = false
 abbrev pub asked : {X : Type 0} → Question → X → X → X
 asked Inclusive x y = x
 asked Strict x y = y
-
--- the step of a leaf with one literal; none of another leaf
-abbrev pub numberLeaf : Question → PrimitiveType → Transform → Arity → ℤ → Res (Projected (Test ℤ))
-numberLeaf question column transform (operators.none o) l = ok none
-numberLeaf question column transform (operators.one o) l = numberStep column transform question (binary o l)
-numberLeaf question column transform (operators.many o) l = ok none
-
-abbrev pub bytesLeaf : Question → PrimitiveType → Transform → Arity → List ℕ → Res (Projected (Test (List ℕ)))
-bytesLeaf question column transform (operators.none o) l = ok none
-bytesLeaf question column transform (operators.one o) l = bytesStep column transform question (binary o l)
-bytesLeaf question column transform (operators.many o) l = ok none
-
--- ---- numbers: the literal that a row of the table transforms, and its operator
-
--- a neighbour of L, where 64 bits hold it
-abbrev pub neighbour : PredicateOperator → ℤ → Boundary
-neighbour o z = cond (inType Long z) (boundary.At o z) (boundary.Err Overflow)
-
-abbrev pub inclusiveBoundary : Arity → ℤ → Boundary
-inclusiveBoundary (operators.none o) l = boundary.None
-inclusiveBoundary (operators.one operators.less) l = neighbour LessThanOrEq (predℤ l)
-inclusiveBoundary (operators.one operators.atMost) l = boundary.At LessThanOrEq l
-inclusiveBoundary (operators.one operators.greater) l = neighbour GreaterThanOrEq (sucℤ l)
-inclusiveBoundary (operators.one operators.atLeast) l = boundary.At GreaterThanOrEq l
-inclusiveBoundary (operators.one operators.equal) l = boundary.At Eq l
-inclusiveBoundary (operators.one operators.notEqual) l = boundary.None
-inclusiveBoundary (operators.one operators.startsWith) l = boundary.At StartsWith l
-inclusiveBoundary (operators.one operators.notStartsWith) l = boundary.At NotStartsWith l
-inclusiveBoundary (operators.many o) l = boundary.None
-
-abbrev pub strictBoundary : Arity → ℤ → Boundary
-strictBoundary (operators.none o) l = boundary.None
-strictBoundary (operators.one operators.less) l = boundary.At LessThan l
-strictBoundary (operators.one operators.atMost) l = neighbour LessThan (sucℤ l)
-strictBoundary (operators.one operators.greater) l = boundary.At GreaterThan l
-strictBoundary (operators.one operators.atLeast) l = neighbour GreaterThan (predℤ l)
-strictBoundary (operators.one operators.equal) l = boundary.None
-strictBoundary (operators.one operators.notEqual) l = boundary.At NotEq l
-strictBoundary (operators.one operators.startsWith) l = boundary.None
-strictBoundary (operators.one operators.notStartsWith) l = boundary.None
-strictBoundary (operators.many o) l = boundary.None
-
--- an operator with T of its literal
-abbrev pub atBoundary : (ℤ → Res ℤ) → Boundary → Res (Projected (Test ℤ))
-atBoundary T boundary.None = ok none
-atBoundary T (boundary.At o l) = do
-  t ← T l
-  ok (oneTest (arity o) t)
-atBoundary T (boundary.Err e) = err e
-
--- the operator of a boundary, and of a projection, takes one literal
-abbrev pub OneAt : Boundary → Type 0
-OneAt boundary.None = Unit {0}
-OneAt (boundary.At o l) = takesOne (arity o) ≡ true
-OneAt (boundary.Err e) = Unit {0}
-
-abbrev pub OneIn : NumberProjection → Type 0
-OneIn number-projection.None = Unit {0}
-OneIn (number-projection.One o t) = takesOne (arity o) ≡ true
-OneIn (number-projection.Two t) = Unit {0}
-OneIn (number-projection.Err e) = Unit {0}
-
-abbrev pub numberProjected : NumberProjection → Res (Projected (Test ℤ))
-numberProjected number-projection.None = ok none
-numberProjected (number-projection.One o t) = ok (oneTest (arity o) t)
-numberProjected (number-projection.Two t) = ok (some (set operators.within (t ∷ sucℤ t ∷ [])))
-numberProjected (number-projection.Err e) = err e
-
--- ---- strings and binaries: the operator with a beginning of L
-
-abbrev pub bytesProjected : List ℕ → BytesProjection → Res (Projected (Test (List ℕ)))
-bytesProjected l bytes-projection.None = ok none
-bytesProjected l (bytes-projection.Prefix o n) = ok (oneTest (arity o) (take n l))
-bytesProjected l (bytes-projection.Err e) = err e
-
--- no beginning is longer than L
-abbrev pub NoLonger : ℕ → BytesProjection → Type 0
-NoLonger size bytes-projection.None = Unit {0}
-NoLonger size (bytes-projection.Prefix o n) = n ≤ size
-NoLonger size (bytes-projection.Err e) = Unit {0}
-
--- and the operator takes one literal
-abbrev pub OneLiteral : BytesProjection → Type 0
-OneLiteral bytes-projection.None = Unit {0}
-OneLiteral (bytes-projection.Prefix o n) = takesOne (arity o) ≡ true
-OneLiteral (bytes-projection.Err e) = Unit {0}
-
--- ---- the rows of the code: an operator with T(L), and what StartsWith and NotStartsWith come to by L's length
-
-abbrev pub truncatedLeaf : PrimitiveType → ℕ → Arity → List ℕ → Res (Projected (Test (List ℕ)))
-truncatedLeaf column width a l = do
-  t ← bytesUnder column (Truncate width) l
-  ok (oneTest a t)
-
-abbrev pub startsLeaf : Question → PrimitiveType → ℕ → List ℕ → Res (Projected (Test (List ℕ)))
-startsLeaf question column width l =
-    byLength (bytesUnder column (Truncate width)) (strictLength column) width l
-    (some (binary operators.equal l))
-    (some (binary operators.startsWith l))
-    (asked question (truncatedLeaf column width (operators.one operators.startsWith) l) (ok none))
-
-abbrev pub notStartsLeaf : Question → PrimitiveType → ℕ → List ℕ → Res (Projected (Test (List ℕ)))
-notStartsLeaf question column width l =
-    byLength (bytesUnder column (Truncate width)) (strictLength column) width l
-    (some (binary operators.notEqual l))
-    (some (binary operators.notStartsWith l))
-    (asked question (ok none) (truncatedLeaf column width (operators.one operators.notStartsWith) l))

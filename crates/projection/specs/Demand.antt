@@ -14,7 +14,7 @@ use Rattle.values.specs.Utf8.{utf8}
 use Rattle.values.specs.declared.datatypes.PrimitiveType.{PrimitiveType}
 use Rattle.values.specs.declared.datatypes.PrimitiveType.the-variants.{String}
 use Rattle.values.specs.declared.transform.Transform.{Transform}
-use Rattle.transform.specs.Partition.{numberPartition, bytesPartition}
+use Rattle.partition.specs.Partition.{numberPartition, bytesPartition}
 use Rattle.expr.specs.Holds.{Tests, numberTests, bytesTests, holds}
 use Rattle.expr.specs.Predicates.{Predicate, literalsIn}
 use Rattle.projection.specs.Lifting.{lifted}

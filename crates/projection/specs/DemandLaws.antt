@@ -16,10 +16,10 @@ use Rattle.values.specs.declared.datatypes.PrimitiveType.{PrimitiveType}
 use Rattle.values.specs.declared.datatypes.PrimitiveType.the-variants.{String}
 use Rattle.values.specs.declared.transform.Transform.{Transform}
 use Rattle.values.specs.declared.transform.Transform.the-variants.{Identity, Truncate}
-use Rattle.transform.specs.Partition.{ofRow, transformNumber, transformBytes, numberPartition, bytesPartition}
-use Rattle.transform.specs.BytesPartitionLaws.{bytes-present, bytes-missing, bytes-identity, string-truncates}
-use Rattle.transform.specs.PartitionLaws.{number-mono, number-starts, number-identity, number-missing}
-use Rattle.transform.specs.RowLaws.{number-rows, bytes-rows}
+use Rattle.partition.specs.Partition.{ofRow, transformNumber, transformBytes, numberPartition, bytesPartition}
+use Rattle.partition.specs.BytesPartitionLaws.{bytes-present, bytes-missing, bytes-identity, string-truncates}
+use Rattle.partition.specs.PartitionLaws.{number-mono, number-starts, number-identity, number-missing}
+use Rattle.partition.specs.RowLaws.{number-rows, bytes-rows}
 use Rattle.transform.specs.Truncate.{firstCodePoints}
 use Rattle.expr.specs.Holds.{numberTests, bytesTests, meets}
 use Rattle.expr.specs.Predicates.{Test, Predicate, unary, test, literalsIn}

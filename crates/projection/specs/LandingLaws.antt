@@ -23,11 +23,11 @@ use Rattle.values.specs.declared.datatypes.PrimitiveType.{PrimitiveType}
 use Rattle.values.specs.declared.datatypes.PrimitiveType.the-variants.{String}
 use Rattle.values.specs.declared.transform.Transform.{Transform}
 use Rattle.values.specs.declared.transform.Transform.the-variants.{Identity}
-use Rattle.transform.specs.Partition.{ofRow, transformNumber, transformBytes, numberPartition, bytesPartition}
-use Rattle.transform.specs.RowLaws.{number-row, bytes-row}
-use Rattle.transform.specs.BytesPartitionLaws.{bytes-begin}
-use Rattle.transform.specs.PartitionLaws.{number-lands, number-identity, string-result}
-use Rattle.transform.specs.ResultType.{resultType}
+use Rattle.partition.specs.Partition.{ofRow, transformNumber, transformBytes, numberPartition, bytesPartition}
+use Rattle.partition.specs.RowLaws.{number-row, bytes-row}
+use Rattle.partition.specs.BytesPartitionLaws.{bytes-begin}
+use Rattle.partition.specs.PartitionLaws.{number-lands, number-identity, string-result}
+use Rattle.partition.specs.ResultType.{resultType}
 use Rattle.expr.specs.Predicates.{Test, Predicate, test, literalsIn}
 use Rattle.projection.specs.Demand.{HeldIn}
 use Rattle.projection.specs.Lifting.{lifted}

@@ -6,7 +6,6 @@ pub mod ByteSteps
 pub mod Projection
 pub mod Demand
 pub mod Answers
-pub mod BoundaryLaws
 pub mod RowLaws
 pub mod StepLaws
 pub mod LiftingLaws

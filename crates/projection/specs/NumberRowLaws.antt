@@ -8,7 +8,7 @@ use Rattle.values.specs.OrderLaws.{number-order}
 use Rattle.values.specs.Outcomes.{Res, ok, Row, missing, present}
 use Rattle.values.specs.OutcomeLaws.{present-inj, missing-not-present}
 use Rattle.values.specs.TestLaws.{clash}
-use Rattle.transform.specs.Partition.{ofRow}
+use Rattle.partition.specs.Partition.{ofRow}
 use Rattle.expr.specs.Holds.{numberTests, holds}
 use Rattle.expr.specs.Operators.{Unary}
 use Rattle.expr.specs.Predicates.{Test, Predicate, unary, test}

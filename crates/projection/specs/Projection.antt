@@ -16,7 +16,7 @@ use Rattle.values.specs.declared.error.ErrorKind.the-variants.{FeatureUnsupport
 use Rattle.values.specs.declared.order.Ordering.{Ordering}
 use Rattle.values.specs.declared.transform.Transform.{Transform}
 use Rattle.values.specs.declared.transform.Transform.the-variants.{Identity, Truncate, Year, Month, Day, Hour, Void, Unknown}
-use Rattle.transform.specs.Partition.{checked, transformNumber, transformBytes}
+use Rattle.partition.specs.Partition.{checked, transformNumber, transformBytes}
 use Rattle.expr.specs.Predicates.{Test, binary, set, Predicate, unary, test}
 use Rattle.projection.specs.declared.question.Question.{Question}
 use Rattle.projection.specs.declared.question.Question.the-variants.{Inclusive, Strict}

@@ -8,7 +8,7 @@ use Rattle.values.specs.declared.order.Ordering.{Ordering}
 use Rattle.values.specs.declared.order.Ordering.the-variants.{Equal}
 use Rattle.values.specs.declared.transform.Transform.{Transform}
 use Rattle.values.specs.declared.transform.Transform.the-variants.{Identity, Truncate, Year, Month, Day, Hour, Void, Unknown}
-use Rattle.transform.specs.Partition.{checked}
+use Rattle.partition.specs.Partition.{checked}
 use Rattle.expr.specs.Holds.{Tests, holds}
 use Rattle.expr.specs.HoldsLaws.{meets-ascending}
 use Rattle.expr.specs.Predicates.{Test, binary, set, Predicate, unary, test}

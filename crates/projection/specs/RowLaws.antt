@@ -4,7 +4,7 @@ use mathlib.Core.Logic.{_↔_}
 use mathlib.Core.Path.{_≡_, refl, ap}
 use Rattle.values.specs.Outcomes.{Res, ok, err, _>>=_, Row, missing, present}
 use Rattle.values.specs.OutcomeLaws.{ok-inj, ok-not-err, missing-not-present}
-use Rattle.transform.specs.Partition.{ofRow}
+use Rattle.partition.specs.Partition.{ofRow}
 use Rattle.expr.specs.Holds.{Tests, holds}
 use Rattle.expr.specs.Operators.{Unary}
 use Rattle.expr.specs.Predicates.{Test, binary, set, unary, test}

@@ -4,7 +4,7 @@ use mathlib.Core.Path.{_≡_, sym, ap, _∙_}
 use Rattle.values.specs.Outcomes.{Res, ok, Row, missing, present}
 use Rattle.values.specs.OutcomeLaws.{ok-inj, missing-not-present}
 use Rattle.values.specs.declared.order.Ordering.the-variants.{Equal}
-use Rattle.transform.specs.Partition.{ofRow}
+use Rattle.partition.specs.Partition.{ofRow}
 use Rattle.expr.specs.Holds.{Tests, meets, holds}
 use Rattle.expr.specs.Operators.{Unary}
 use Rattle.expr.specs.Predicates.{Test, Predicate, unary, test}

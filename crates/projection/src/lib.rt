@@ -1,4 +1,2 @@
-// The steps of both projections over a leaf's literals (src/spec/transform.rs).
-pub mod bytes;
-pub mod number;
+// The two questions; the steps that answer them are definitions here, and code in `numbers` and `strings` (src/spec/transform.rs).
 pub mod question;

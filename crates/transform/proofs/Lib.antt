@@ -1,5 +1,4 @@
 -- Lemmas that several proofs of this crate share.
-pub mod Arms
 pub mod Closed
 pub mod Dates
 pub mod Division

@@ -6,8 +6,6 @@ pub mod Calendar
 pub mod CalendarDays
 pub mod Temporal
 pub mod Truncate
-pub mod ResultType
-pub mod Partition
 pub mod Answers
 pub mod FloorLaws
 pub mod TruncateLaws
@@ -15,6 +13,3 @@ pub mod StringLaws
 pub mod CountLaws
 pub mod GregorianLaws
 pub mod CalendarLaws
-pub mod PartitionLaws
-pub mod BytesPartitionLaws
-pub mod RowLaws

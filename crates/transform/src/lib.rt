@@ -1,6 +1,5 @@
 // Transforms: from a column's value to its partition value (src/transform/mod.rs).
 pub mod calendar;
 pub mod floor;
-pub mod partition;
 pub mod temporal;
 pub mod truncate;

@@ -1,20 +1,10 @@
 // Truncate of numbers and of strings (src/transform/truncate.rs).
 use crate::floor::floor_rem;
-use values::datatypes::PrimitiveType;
-use values::error::ErrorKind;
 use values::utf8::continues_code_point;
 ghost use mathlib.Core.Path.{_≡_};
 ghost use lib.ListN.{length};
 ghost use Rattle.transform.specs.Truncate.{firstCodePoints};
-ghost use Rattle.transform.specs.Partition.{truncateNumber};
-ghost use Rattle.transform.specs.Answers.{numberResult, truncatedLong};
-
-// What a transform makes of a number.
-pub enum NumberResult {
-    Missing,
-    Value(i64),
-    Err(ErrorKind),
-}
+ghost use Rattle.transform.specs.Answers.{truncatedLong};
 
 // A truncated number of 64 bits, or nothing where the width is 0 or the number would fall below the lowest.
 pub enum Truncated {
@@ -35,41 +25,6 @@ pub fn truncate_i64(v: i64, width: u32) -> Truncated
         Truncated::Overflow
     } else {
         Truncated::Value(v - r)
-    }
-}
-
-// Truncate of an Int or a Long.
-pub fn truncate_number(column: PrimitiveType, v: i64, width: u32) -> NumberResult
-    ensures { λ r. ⌜ r ≡ numberResult (truncateNumber column width v) ⌝ }
-{
-    match column {
-        PrimitiveType::Int => {
-            if width > 2147483647 {
-                return NumberResult::Err(ErrorKind::DataInvalid);
-            }
-            match truncate_i64(v, width) {
-                Truncated::Value(t) => {
-                    if PrimitiveType::Int.holds(t) {
-                        NumberResult::Value(t)
-                    } else {
-                        NumberResult::Err(ErrorKind::Overflow)
-                    }
-                }
-                Truncated::Overflow => NumberResult::Err(ErrorKind::Overflow),
-            }
-        }
-        PrimitiveType::Long => match truncate_i64(v, width) {
-            Truncated::Value(t) => NumberResult::Value(t),
-            Truncated::Overflow => NumberResult::Err(ErrorKind::Overflow),
-        },
-        PrimitiveType::Date => NumberResult::Err(ErrorKind::NoResultType),
-        PrimitiveType::Time => NumberResult::Err(ErrorKind::NoResultType),
-        PrimitiveType::Timestamp => NumberResult::Err(ErrorKind::NoResultType),
-        PrimitiveType::Timestamptz => NumberResult::Err(ErrorKind::NoResultType),
-        PrimitiveType::TimestampNs => NumberResult::Err(ErrorKind::NoResultType),
-        PrimitiveType::TimestamptzNs => NumberResult::Err(ErrorKind::NoResultType),
-        PrimitiveType::String => NumberResult::Err(ErrorKind::NoResultType),
-        PrimitiveType::Binary => NumberResult::Err(ErrorKind::NoResultType),
     }
 }
 
@@ -96,12 +51,4 @@ pub fn prefix_len(s: &[u8], width: u32) -> usize
         i += 1;
     }
     i
-}
-
-// The first width code points of s, a part of what was lent.
-pub fn truncate_str<'a>(s: &'a [u8], width: u32) -> &'a [u8]
-    ensures { λ r. ⌜ now r ≡ firstCodePoints width (now (s .entry)) ⌝ }
-{
-    let n = prefix_len(s, width);
-    &s[..n]
 }

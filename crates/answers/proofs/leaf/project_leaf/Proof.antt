@@ -6,7 +6,7 @@ use Rattle.values.specs.Answers.{typeResult}
 use Rattle.values.specs.Outcomes.{Res, ok, err}
 use Rattle.values.specs.TestLaws.{called-no, called-yes}
 use Rattle.values.specs.declared.datatypes.PrimitiveType.{PrimitiveType}
-use Rattle.transform.specs.ResultType.{resultType}
+use Rattle.partition.specs.ResultType.{resultType}
 use Rattle.answers.specs.ReadyLaws.{literalsOk, ready-not-utf8, ready-no-type, ready-steps}
 use Rattle.answers.specs.SettledLaws.{settled-refused, settled-as}
 use Rattle.values.specs.AnswerLaws.{type-told}

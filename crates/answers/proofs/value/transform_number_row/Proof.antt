@@ -6,8 +6,8 @@ use mir.Syntax.{w64}
 use mir.Val.{SFits}
 use borrow.Author.Needs.{needs}
 use Rattle.values.specs.IntLaws.{back}
-use Rattle.transform.specs.Answers.{numberResult}
-use Rattle.transform.specs.Partition.{numberPartition}
+use Rattle.partition.specs.Answers.{numberResult}
+use Rattle.partition.specs.Partition.{numberPartition}
 use Rattle.sheet.specs.Contents.{row}
 use Rattle.answers.specs.Rows.{numberRowIn}
 use Rattle.answers.proofs.ValueAnswers.{number-length, number-lands, number-no-value, missing-number, present-number}

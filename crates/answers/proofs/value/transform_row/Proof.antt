@@ -9,7 +9,7 @@ use Rattle.values.specs.Outcomes.{ok, err}
 use Rattle.values.specs.TestLaws.{called-no, called-yes}
 use Rattle.values.specs.Types.{layout, bytes, contentSize, sameType}
 use Rattle.values.specs.declared.datatypes.PrimitiveType.the-variants.{String}
-use Rattle.transform.specs.ResultType.{resultType}
+use Rattle.partition.specs.ResultType.{resultType}
 use Rattle.answers.specs.Answers.{transformedRow, asResult, Settled}
 use Rattle.sheet.specs.Contents.{row, rowUtf8}
 use Rattle.answers.specs.Rows.{bytesValue}

@@ -1,0 +1,23 @@
+-- `numbers::steps::project_binary_with_adjusted_boundary` meets its contract. Assumes nothing.
+use Rattle.numbers.proofs.NumberArms.{inclusive-operator, in-one, leaves}
+use borrow.Author.Needs.{needs}
+use Rattle.numbers.proofs.steps.project_binary_with_adjusted_boundary.Statement.{statement}
+use Rattle.numbers.proofs.steps.project_binary_with_adjusted_boundary.Tie as tie
+
+pub project-binary-with-adjusted-boundary-spec : {M : Type 1} → statement M
+project-binary-with-adjusted-boundary-spec =
+    tie.close
+    (tie.spec
+    (search needs)
+    (λ c κs. search inclusive-operator)
+    (search needs)
+    (search needs)
+    (λ c κs. search in-one)
+    (search needs)
+    (search needs)
+    (search needs)
+    (λ c. search leaves)
+    (λ c. search leaves)
+    (λ c. search leaves)
+    (λ c. search leaves)
+    (λ c. search leaves))

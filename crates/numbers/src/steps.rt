@@ -1,0 +1,200 @@
+// A leaf with one number: the rows of document 01's table for numbers and times.
+use expr::operator::PredicateOperator;
+use partition::number::NumberResult;
+use partition::number::transform_literal;
+use projection::question::Question;
+use values::datatypes::PrimitiveType;
+use values::error::ErrorKind;
+use values::transform::Transform;
+ghost use mathlib.Core.Bool.{true};
+ghost use mathlib.Core.Path.{_≡_};
+ghost use lib.IntN.{sucℤ, predℤ};
+ghost use Rattle.values.specs.Outcomes.{ok};
+ghost use Rattle.expr.specs.Operators.{arity};
+ghost use Rattle.projection.specs.Lifting.{lifted, lift};
+ghost use Rattle.projection.specs.Projection.{numberUnder};
+ghost use Rattle.projection.specs.Steps.{mapped};
+ghost use Rattle.projection.specs.Answers.{oneTest, takesOne};
+ghost use Rattle.numbers.specs.Answers.{numberLeaf, neighbour, inclusiveBoundary, strictBoundary, atBoundary, numberProjected, OneAt, OneIn};
+ghost use Rattle.projection.specs.declared.question.Question.the-variants.{Inclusive, Strict};
+
+// The operator that a row of the table has, and the literal that is to be transformed: none where the row has no predicate.
+pub enum Boundary {
+    None,
+    At(PredicateOperator, i64),
+    Err(ErrorKind),
+}
+
+// What a leaf with one number comes to: an operator with one number, In of a number and the one above it, or none.
+pub enum NumberProjection {
+    None,
+    One(PredicateOperator, i64),
+    Two(i64),
+    Err(ErrorKind),
+}
+
+fn try_increment_number(operator: PredicateOperator, v: i64) -> Boundary
+    ensures { λ r. ⌜ r ≡ neighbour operator (sucℤ v) ⌝ }
+{
+    if v == 9223372036854775807 {
+        Boundary::Err(ErrorKind::Overflow)
+    } else {
+        Boundary::At(operator, v + 1)
+    }
+}
+
+fn try_decrement_number(operator: PredicateOperator, v: i64) -> Boundary
+    ensures { λ r. ⌜ r ≡ neighbour operator (predℤ v) ⌝ }
+{
+    if v == -9223372036854775808 {
+        Boundary::Err(ErrorKind::Overflow)
+    } else {
+        Boundary::At(operator, v - 1)
+    }
+}
+
+// Inclusive, the Rust's `adjust_operator` with it: < L is ≤ L−1, and > L is ≥ L+1.
+fn adjust_boundary(operator: PredicateOperator, l: i64) -> Boundary
+    ensures { λ r. ⌜ r ≡ inclusiveBoundary (arity operator) l ⌝ }
+{
+    match operator {
+        PredicateOperator::LessThan => try_decrement_number(PredicateOperator::LessThanOrEq, l),
+        PredicateOperator::GreaterThan => {
+            try_increment_number(PredicateOperator::GreaterThanOrEq, l)
+        }
+        PredicateOperator::LessThanOrEq => Boundary::At(operator, l),
+        PredicateOperator::GreaterThanOrEq => Boundary::At(operator, l),
+        PredicateOperator::Eq => Boundary::At(operator, l),
+        PredicateOperator::StartsWith => Boundary::At(operator, l),
+        PredicateOperator::NotStartsWith => Boundary::At(operator, l),
+        _ => Boundary::None,
+    }
+}
+
+// Strict: ≤ L is < L+1, and ≥ L is > L−1.
+fn strict_boundary(operator: PredicateOperator, l: i64) -> Boundary
+    ensures { λ r. ⌜ r ≡ strictBoundary (arity operator) l ⌝ }
+{
+    match operator {
+        PredicateOperator::LessThanOrEq => try_increment_number(PredicateOperator::LessThan, l),
+        PredicateOperator::GreaterThanOrEq => {
+            try_decrement_number(PredicateOperator::GreaterThan, l)
+        }
+        PredicateOperator::LessThan => Boundary::At(operator, l),
+        PredicateOperator::GreaterThan => Boundary::At(operator, l),
+        PredicateOperator::NotEq => Boundary::At(operator, l),
+        _ => Boundary::None,
+    }
+}
+
+// The operator with T of the literal.
+fn project_boundary(
+    column: PrimitiveType,
+    transform: Transform,
+    boundary: Boundary,
+) -> NumberProjection
+    requires { ⌜ OneAt boundary ⌝ }
+    ensures projected { λ r. ⌜ numberProjected r ≡ atBoundary (numberUnder column transform) boundary ⌝ }
+    ensures one { λ r. ⌜ OneIn r ⌝ }
+{
+    match boundary {
+        Boundary::None => NumberProjection::None,
+        Boundary::Err(e) => NumberProjection::Err(e),
+        Boundary::At(operator, l) => match transform_literal(column, transform, l) {
+            NumberResult::Missing => NumberProjection::Err(ErrorKind::FeatureUnsupported),
+            NumberResult::Value(t) => NumberProjection::One(operator, t),
+            NumberResult::Err(e) => NumberProjection::Err(e),
+        },
+    }
+}
+
+// Whether document 01 lifts the transform of a column.
+pub fn is_lifted(column: PrimitiveType, transform: Transform) -> bool
+    ensures { λ r. ⌜ r ≡ lifted column transform ⌝ }
+{
+    match transform {
+        Transform::Year => true,
+        Transform::Month => true,
+        Transform::Day => {
+            if let PrimitiveType::Timestamp = column {
+                true
+            } else {
+                false
+            }
+        }
+        _ => false,
+    }
+}
+
+// Lifting: with a negative number, ≤ uses the one above, and Eq becomes In of both.
+fn adjust_time_projection(operator: PredicateOperator, t: i64) -> NumberProjection
+    requires { ⌜ takesOne (arity operator) ≡ true ⌝ }
+    ensures projected { λ r. ⌜ numberProjected r ≡ ok (mapped lift (oneTest (arity operator) t)) ⌝ }
+    ensures one { λ r. ⌜ OneIn r ⌝ }
+{
+    if t < 0 {
+        match operator {
+            PredicateOperator::LessThanOrEq => NumberProjection::One(operator, t + 1),
+            PredicateOperator::Eq => NumberProjection::Two(t),
+            _ => NumberProjection::One(operator, t),
+        }
+    } else {
+        NumberProjection::One(operator, t)
+    }
+}
+
+// The inclusive projection.
+fn project_binary_with_adjusted_boundary(
+    column: PrimitiveType,
+    transform: Transform,
+    operator: PredicateOperator,
+    l: i64,
+) -> NumberProjection
+    ensures projected { λ r. ⌜ numberProjected r ≡ numberLeaf Inclusive column transform (arity operator) l ⌝ }
+    ensures one { λ r. ⌜ OneIn r ⌝ }
+{
+    match project_boundary(column, transform, adjust_boundary(operator, l)) {
+        NumberProjection::One(adjusted, t) => {
+            if is_lifted(column, transform) {
+                adjust_time_projection(adjusted, t)
+            } else {
+                NumberProjection::One(adjusted, t)
+            }
+        }
+        NumberProjection::None => NumberProjection::None,
+        NumberProjection::Two(t) => NumberProjection::Two(t),
+        NumberProjection::Err(e) => NumberProjection::Err(e),
+    }
+}
+
+// The strict projection.
+fn truncate_number_strict(
+    column: PrimitiveType,
+    transform: Transform,
+    operator: PredicateOperator,
+    l: i64,
+) -> NumberProjection
+    ensures projected { λ r. ⌜ numberProjected r ≡ numberLeaf Strict column transform (arity operator) l ⌝ }
+    ensures one { λ r. ⌜ OneIn r ⌝ }
+{
+    project_boundary(column, transform, strict_boundary(operator, l))
+}
+
+// Either projection of a leaf with one number.
+pub fn project_number(
+    question: Question,
+    column: PrimitiveType,
+    transform: Transform,
+    operator: PredicateOperator,
+    l: i64,
+) -> NumberProjection
+    ensures projected { λ r. ⌜ numberProjected r ≡ numberLeaf question column transform (arity operator) l ⌝ }
+    ensures one { λ r. ⌜ OneIn r ⌝ }
+{
+    match question {
+        Question::Inclusive => {
+            project_binary_with_adjusted_boundary(column, transform, operator, l)
+        }
+        Question::Strict => truncate_number_strict(column, transform, operator, l),
+    }
+}

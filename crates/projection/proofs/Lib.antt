@@ -1,4 +1,0 @@
--- Lemmas that several proofs of this crate share.
-pub mod Others
-pub mod NumberArms
-pub mod BytesArms

@@ -1,0 +1,2 @@
+-- The definitions of `strings`.
+pub mod Answers

@@ -1,0 +1,189 @@
+// A leaf with one String or Binary under Truncate.
+use expr::operator::PredicateOperator;
+use partition::bytes::BytesResult;
+use partition::bytes::transform_bytes_literal;
+use projection::question::Question;
+use values::datatypes::PrimitiveType;
+use values::error::ErrorKind;
+use values::transform::Transform;
+use values::utf8::count_code_points;
+ghost use mathlib.Core.Bool.{true};
+ghost use mathlib.Core.Path.{_≡_};
+ghost use lib.ListN.{length};
+ghost use Rattle.values.specs.declared.transform.Transform.the-variants.{Truncate};
+ghost use Rattle.expr.specs.Operators.{arity};
+ghost use Rattle.projection.specs.Projection.{lengthOf};
+ghost use Rattle.projection.specs.Answers.{takesOne};
+ghost use Rattle.strings.specs.Answers.{bytesLeaf, bytesProjected, NoLonger, OneLiteral, truncatedLeaf, startsLeaf, notStartsLeaf};
+ghost use Rattle.projection.specs.declared.question.Question.the-variants.{Inclusive, Strict};
+
+// What such a leaf comes to: an operator with so many of the literal's first bytes, or none.
+pub enum BytesProjection {
+    None,
+    Prefix(PredicateOperator, usize),
+    Err(ErrorKind),
+}
+
+// A String's length is in code points, a Binary's in bytes.
+fn literal_len(column: PrimitiveType, l: &[u8]) -> usize
+    ensures { λ r. ⌜ r ≡ lengthOf column (now (l .entry)) ⌝ }
+{
+    if let PrimitiveType::String = column {
+        count_code_points(l)
+    } else {
+        l.len()
+    }
+}
+
+// An operator with T of the literal.
+fn truncate_array(
+    column: PrimitiveType,
+    width: u32,
+    operator: PredicateOperator,
+    l: &[u8],
+) -> BytesProjection
+    requires { ⌜ takesOne (arity operator) ≡ true ⌝ }
+    ensures says { λ r. ⌜ bytesProjected (now (l .entry)) r ≡ truncatedLeaf column width (arity operator) (now (l .entry)) ⌝ }
+    ensures short { λ r. ⌜ NoLonger (length (now (l .entry))) r ⌝ }
+    ensures one { λ r. ⌜ OneLiteral r ⌝ }
+{
+    match transform_bytes_literal(column, Transform::Truncate(width), l) {
+        BytesResult::Missing => BytesProjection::Err(ErrorKind::FeatureUnsupported),
+        BytesResult::Prefix(n) => BytesProjection::Prefix(operator, n),
+        BytesResult::Err(e) => BytesProjection::Err(e),
+    }
+}
+
+// StartsWith: the literal itself where the width holds it, and where it is longer T of it, or none.
+fn project_starts_with(
+    question: Question,
+    column: PrimitiveType,
+    width: u32,
+    l: &[u8],
+) -> BytesProjection
+    ensures says { λ r. ⌜ bytesProjected (now (l .entry)) r ≡ startsLeaf question column width (now (l .entry)) ⌝ }
+    ensures short { λ r. ⌜ NoLonger (length (now (l .entry))) r ⌝ }
+    ensures one { λ r. ⌜ OneLiteral r ⌝ }
+{
+    let n = literal_len(column, l);
+    if n == width as usize {
+        return BytesProjection::Prefix(PredicateOperator::Eq, l.len());
+    }
+    if n < width as usize {
+        return BytesProjection::Prefix(PredicateOperator::StartsWith, l.len());
+    }
+    match question {
+        Question::Inclusive => truncate_array(column, width, PredicateOperator::StartsWith, l),
+        Question::Strict => BytesProjection::None,
+    }
+}
+
+// NotStartsWith: the opposite of that.
+fn project_not_starts_with(
+    question: Question,
+    column: PrimitiveType,
+    width: u32,
+    l: &[u8],
+) -> BytesProjection
+    ensures says { λ r. ⌜ bytesProjected (now (l .entry)) r ≡ notStartsLeaf question column width (now (l .entry)) ⌝ }
+    ensures short { λ r. ⌜ NoLonger (length (now (l .entry))) r ⌝ }
+    ensures one { λ r. ⌜ OneLiteral r ⌝ }
+{
+    let n = literal_len(column, l);
+    if n == width as usize {
+        return BytesProjection::Prefix(PredicateOperator::NotEq, l.len());
+    }
+    if n < width as usize {
+        return BytesProjection::Prefix(PredicateOperator::NotStartsWith, l.len());
+    }
+    match question {
+        Question::Inclusive => BytesProjection::None,
+        Question::Strict => truncate_array(column, width, PredicateOperator::NotStartsWith, l),
+    }
+}
+
+// The inclusive projection of every other operator.
+fn project_array(
+    column: PrimitiveType,
+    width: u32,
+    operator: PredicateOperator,
+    l: &[u8],
+) -> BytesProjection
+    ensures says { λ r. ⌜ bytesProjected (now (l .entry)) r ≡ bytesLeaf Inclusive column (Truncate width) (arity operator) (now (l .entry)) ⌝ }
+    ensures short { λ r. ⌜ NoLonger (length (now (l .entry))) r ⌝ }
+    ensures one { λ r. ⌜ OneLiteral r ⌝ }
+{
+    match operator {
+        PredicateOperator::LessThan => {
+            truncate_array(column, width, PredicateOperator::LessThanOrEq, l)
+        }
+        PredicateOperator::LessThanOrEq => truncate_array(column, width, operator, l),
+        PredicateOperator::GreaterThan => {
+            truncate_array(column, width, PredicateOperator::GreaterThanOrEq, l)
+        }
+        PredicateOperator::GreaterThanOrEq => truncate_array(column, width, operator, l),
+        PredicateOperator::Eq => truncate_array(column, width, operator, l),
+        PredicateOperator::StartsWith => {
+            if let PrimitiveType::String = column {
+                project_starts_with(Question::Inclusive, column, width, l)
+            } else {
+                BytesProjection::Err(ErrorKind::FeatureUnsupported)
+            }
+        }
+        PredicateOperator::NotStartsWith => {
+            if let PrimitiveType::String = column {
+                project_not_starts_with(Question::Inclusive, column, width, l)
+            } else {
+                BytesProjection::Err(ErrorKind::FeatureUnsupported)
+            }
+        }
+        _ => BytesProjection::None,
+    }
+}
+
+// The strict projection.
+fn truncate_array_strict(
+    column: PrimitiveType,
+    width: u32,
+    operator: PredicateOperator,
+    l: &[u8],
+) -> BytesProjection
+    ensures says { λ r. ⌜ bytesProjected (now (l .entry)) r ≡ bytesLeaf Strict column (Truncate width) (arity operator) (now (l .entry)) ⌝ }
+    ensures short { λ r. ⌜ NoLonger (length (now (l .entry))) r ⌝ }
+    ensures one { λ r. ⌜ OneLiteral r ⌝ }
+{
+    match operator {
+        PredicateOperator::LessThan => truncate_array(column, width, operator, l),
+        PredicateOperator::LessThanOrEq => {
+            truncate_array(column, width, PredicateOperator::LessThan, l)
+        }
+        PredicateOperator::GreaterThan => truncate_array(column, width, operator, l),
+        PredicateOperator::GreaterThanOrEq => {
+            truncate_array(column, width, PredicateOperator::GreaterThan, l)
+        }
+        PredicateOperator::NotEq => truncate_array(column, width, operator, l),
+        PredicateOperator::StartsWith => { project_starts_with(Question::Strict, column, width, l) }
+        PredicateOperator::NotStartsWith => {
+            project_not_starts_with(Question::Strict, column, width, l)
+        }
+        _ => BytesProjection::None,
+    }
+}
+
+// Either projection of a leaf with one String or Binary.
+pub fn project_bytes(
+    question: Question,
+    column: PrimitiveType,
+    width: u32,
+    operator: PredicateOperator,
+    l: &[u8],
+) -> BytesProjection
+    ensures says { λ r. ⌜ bytesProjected (now (l .entry)) r ≡ bytesLeaf question column (Truncate width) (arity operator) (now (l .entry)) ⌝ }
+    ensures short { λ r. ⌜ NoLonger (length (now (l .entry))) r ⌝ }
+    ensures one { λ r. ⌜ OneLiteral r ⌝ }
+{
+    match question {
+        Question::Inclusive => project_array(column, width, operator, l),
+        Question::Strict => truncate_array_strict(column, width, operator, l),
+    }
+}

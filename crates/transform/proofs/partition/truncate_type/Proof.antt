@@ -1,8 +1,0 @@
--- `transform::partition::truncate_type` meets its contract. Assumes nothing.
-use Rattle.transform.proofs.Arms.{truncates-yes, truncates-no}
-use borrow.Author.Needs.{needs}
-use Rattle.transform.proofs.partition.truncate_type.Statement.{statement}
-use Rattle.transform.proofs.partition.truncate_type.Tie as tie
-
-pub truncate-type-spec : {M : Type 1} → statement M
-truncate-type-spec = tie.close (tie.spec (search needs) (λ c. search truncates-yes) (λ c. search truncates-no))
