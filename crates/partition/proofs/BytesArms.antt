@@ -21,15 +21,14 @@ use Rattle.partition.specs.declared.result.Checked.{Checked}
 use Rattle.partition.specs.declared.result.Checked.the-variants as checked-as
 use Rattle.partition.proofs.ResultArms.{checked-ok, checked-err}
 
--- ---- strings and binaries
 pub bytes-arm : (ty : PrimitiveType) (tr arm : Transform) (s : List ℕ) (r : BytesResult) → tr ≡ arm → r ≡ bytesResult (transformBytes ty arm s) → r ≡ bytesResult (transformBytes ty tr s)
 bytes-arm ty tr arm s r e h = rw e h
 
 pub cut-arm : (ty arm : PrimitiveType) (width : ℕ) (s : List ℕ) (r : BytesResult) → ty ≡ arm → r ≡ bytesResult (truncateBytes arm width s) → r ≡ bytesResult (truncateBytes ty width s)
 cut-arm ty arm width s r e h = rw e h
 
-pub cut-string : (ty : PrimitiveType) (width : ℕ) (s : List ℕ) (n : ℕ) → ty ≡ String → n ≡ length (firstCodePoints width s) → bytes-result.Prefix n ≡ bytesResult (truncateBytes ty width s)
-cut-string ty width s n e h = rw (e, h)
+pub cut-string : (ty : PrimitiveType) (width : ℕ) (s r : List ℕ) → ty ≡ String → r ≡ firstCodePoints width s → bytes-result.Prefix (length r) ≡ bytesResult (truncateBytes ty width s)
+cut-string ty width s r e h = rw (e, h)
 
 module _ (ty : PrimitiveType) (tr : Transform) (here : Bool) (s : List ℕ) (k : Checked) (is : k ≡ checkedResult (checked ty tr)) where
   pub bytes-refused : (x : ErrorKind) → k ≡ checked-as.Err x → bytes-result.Err x ≡ bytesResult (bytesPartition ty tr (bytesRow here s))

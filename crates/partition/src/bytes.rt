@@ -1,7 +1,7 @@
 // The transform of a String or Binary: a choice over `Transform` where the Rust has a boxed trait object (src/transform/mod.rs).
 use crate::result::Checked;
 use crate::result::check_transform;
-use transform::truncate::prefix_len;
+use transform::truncate::truncate_str;
 use values::datatypes::PrimitiveType;
 use values::error::ErrorKind;
 use values::transform::Transform;
@@ -28,7 +28,7 @@ fn truncate_bytes(column: PrimitiveType, width: u32, s: &[u8]) -> BytesResult
         PrimitiveType::Timestamptz => BytesResult::Err(ErrorKind::NoResultType),
         PrimitiveType::TimestampNs => BytesResult::Err(ErrorKind::NoResultType),
         PrimitiveType::TimestamptzNs => BytesResult::Err(ErrorKind::NoResultType),
-        PrimitiveType::String => BytesResult::Prefix(prefix_len(s, width)),
+        PrimitiveType::String => BytesResult::Prefix(truncate_str(s, width).len()),
         PrimitiveType::Binary => BytesResult::Err(ErrorKind::FeatureUnsupported),
     }
 }

@@ -29,7 +29,7 @@ pub fn truncate_i64(v: i64, width: u32) -> Truncated
 }
 
 // How many bytes the first width code points of s are.
-pub fn prefix_len(s: &[u8], width: u32) -> usize
+fn prefix_len(s: &[u8], width: u32) -> usize
     ensures { λ r. ⌜ r ≡ length (firstCodePoints width (now (s .entry))) ⌝ }
 {
     if width == 0 {
@@ -51,4 +51,12 @@ pub fn prefix_len(s: &[u8], width: u32) -> usize
         i += 1;
     }
     i
+}
+
+// The first width code points of s, a part of what was lent.
+pub fn truncate_str<'a>(s: &'a [u8], width: u32) -> &'a [u8]
+    ensures { λ r. ⌜ now r ≡ firstCodePoints width (now (s .entry)) ⌝ }
+{
+    let n = prefix_len(s, width);
+    &s[..n]
 }
