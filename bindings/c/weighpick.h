@@ -1,0 +1,115 @@
+/*
+ * weighpick: leaf projection over weighing sheets, for C99 and C++.
+ *
+ * A sheet is a chain of records. Record 0, the head, says operator, column type, transform and width; every further record on
+ * the chain is a literal. A projection answers with such a sheet, the predicate that partition values are tested with. A value is
+ * one literal record. Numbers in records are little-endian, two's complement.
+ *
+ * The routines take bytes of every kind, keep no state and may run on several threads at once. Any lent memory must be readable
+ * (`out` and `count`: writable) for its whole length; no pointer may be null, also with a length of 0; `out` and `count` may not
+ * overlap with each other or with what is read.
+ */
+#ifndef WEIGHPICK_H
+#define WEIGHPICK_H
+
+#include <stddef.h>
+#include <stdint.h>
+
+#ifdef __cplusplus
+extern "C" {
+#endif
+
+/* What a routine returns. After every number but WEIGHPICK_RESULT nothing was written and the count is 0. */
+enum weighpick_answer {
+    WEIGHPICK_RESULT = 0,              /* result written; for the holds-test: yes */
+    WEIGHPICK_NONE = 1,                /* no predicate; for the holds-test: no */
+    WEIGHPICK_BUFFER_TOO_SMALL = 2,    /* result buffer under WEIGHPICK_SHEET_BUFFER (WEIGHPICK_VALUE_BUFFER for one value) */
+    WEIGHPICK_MALFORMED = 3,           /* malformed sheet or value */
+    WEIGHPICK_NOT_UTF8 = 4,            /* a String literal or value is not UTF-8 */
+    WEIGHPICK_NO_RESULT_TYPE = 5,      /* the transform does not apply to the column's type */
+    WEIGHPICK_DATA_INVALID = 6,        /* calendar or width exceeded, where the crate iceberg answers DataInvalid */
+    WEIGHPICK_FEATURE_UNSUPPORTED = 7, /* transform Unknown; Truncate of a Binary */
+    WEIGHPICK_OVERFLOW = 8             /* a number leaves its type, where the crate iceberg panics or wraps */
+};
+
+/* Sizes, in bytes unless they count literals. */
+#define WEIGHPICK_RECORD 64           /* a record */
+#define WEIGHPICK_CONTENT 60          /* the most content of a record: a String or Binary */
+#define WEIGHPICK_LITERALS 64         /* the most literals of a sheet to be projected */
+#define WEIGHPICK_LARGEST_SHEET 4160  /* the largest sheet to be projected: a head and its literals */
+#define WEIGHPICK_ANSWER_LITERALS 128 /* the most literals of an answer sheet, and of a sheet for the holds-test */
+#define WEIGHPICK_SHEET_BUFFER 8256   /* the least result buffer of a projection */
+#define WEIGHPICK_VALUE_BUFFER 64     /* the least result buffer of one value's transform */
+#define WEIGHPICK_MISSING 65535       /* the length that marks a value as missing */
+
+/* Where the fields of a record lie; the rest of a record is zero. */
+#define WEIGHPICK_NEXT_AT 0      /* 2 bytes: number of the next record on the chain, above this one's; 0 ends it */
+#define WEIGHPICK_OPERATOR_AT 2  /* head, 2 bytes: operator */
+#define WEIGHPICK_TYPE_AT 4      /* head, 1 byte: column type */
+#define WEIGHPICK_TRANSFORM_AT 5 /* head, 1 byte: transform */
+#define WEIGHPICK_WIDTH_AT 8     /* head, 4 bytes: width, 0 unless the transform is Truncate */
+#define WEIGHPICK_LENGTH_AT 2    /* literal, 2 bytes: length of its content */
+#define WEIGHPICK_CONTENT_AT 4   /* literal: content */
+
+/* Operators; 101 to 104 take no literal, 201 to 208 one, 301 and 302 a set of any size up to the most. */
+enum weighpick_operator {
+    WEIGHPICK_IS_NULL = 101,            /* missing */
+    WEIGHPICK_NOT_NULL = 102,           /* present */
+    WEIGHPICK_IS_NAN = 103,             /* holds of nothing */
+    WEIGHPICK_NOT_NAN = 104,            /* present */
+    WEIGHPICK_LESS_THAN = 201,          /* < */
+    WEIGHPICK_LESS_THAN_OR_EQ = 202,    /* <= */
+    WEIGHPICK_GREATER_THAN = 203,       /* > */
+    WEIGHPICK_GREATER_THAN_OR_EQ = 204, /* >= */
+    WEIGHPICK_EQ = 205,                 /* = */
+    WEIGHPICK_NOT_EQ = 206,             /* present and not = */
+    WEIGHPICK_STARTS_WITH = 207,        /* a string or binary that starts with the literal */
+    WEIGHPICK_NOT_STARTS_WITH = 208,    /* present and not so */
+    WEIGHPICK_IN = 301,                 /* one of the literals */
+    WEIGHPICK_NOT_IN = 302              /* present and none of them */
+};
+
+/* Column types. */
+enum weighpick_type {
+    WEIGHPICK_INT = 1,            /* 4 bytes */
+    WEIGHPICK_LONG = 2,           /* 8 bytes */
+    WEIGHPICK_DATE = 3,           /* 4 bytes: days from 1970-01-01 */
+    WEIGHPICK_TIME = 4,           /* 8 bytes: microseconds from midnight */
+    WEIGHPICK_TIMESTAMP = 5,      /* 8 bytes: microseconds from 1970-01-01 */
+    WEIGHPICK_TIMESTAMPTZ = 6,    /* the same, with a time zone */
+    WEIGHPICK_TIMESTAMP_NS = 7,   /* 8 bytes: nanoseconds from 1970-01-01 */
+    WEIGHPICK_TIMESTAMPTZ_NS = 8, /* the same, with a time zone */
+    WEIGHPICK_STRING = 9,         /* 0 to 60 bytes of UTF-8 */
+    WEIGHPICK_BINARY = 10         /* 0 to 60 bytes */
+};
+
+/* Transforms. */
+enum weighpick_transform_number {
+    WEIGHPICK_IDENTITY = 0, /* the value itself */
+    WEIGHPICK_TRUNCATE = 1, /* a number's step of a width, or a string's first code points */
+    WEIGHPICK_YEAR = 2,     /* years from 1970 */
+    WEIGHPICK_MONTH = 3,    /* months from January 1970 */
+    WEIGHPICK_DAY = 4,      /* days from 1970-01-01 */
+    WEIGHPICK_HOUR = 5,     /* hours from 1970-01-01 */
+    WEIGHPICK_VOID = 6,     /* always missing */
+    WEIGHPICK_UNKNOWN = 7   /* not known here */
+};
+
+/* Inclusive projection: a predicate that accepts the partition value of every row that meets the sheet's leaf. */
+uint32_t weighpick_project(const uint8_t *sheet, size_t sheet_len, uint8_t *out, size_t out_len, uint64_t *count);
+
+/* Strict projection: a predicate that accepts only partition values all of whose rows meet the sheet's leaf. */
+uint32_t weighpick_strict_project(const uint8_t *sheet, size_t sheet_len, uint8_t *out, size_t out_len, uint64_t *count);
+
+/* The partition value of one value, as a value record. */
+uint32_t weighpick_transform(uint8_t column_type, uint8_t transform, uint32_t width, const uint8_t *value, size_t value_len,
+                             uint8_t *out, size_t out_len, uint64_t *count);
+
+/* Holds-test: whether a value meets a sheet's leaf, or a partition value an answer sheet's predicate. */
+uint32_t weighpick_holds(const uint8_t *sheet, size_t sheet_len, const uint8_t *value, size_t value_len);
+
+#ifdef __cplusplus
+}
+#endif
+
+#endif

@@ -1,0 +1,148 @@
+//! Leaves: what a filter asks of one column, and how the table is split by it.
+
+use crate::record::{LARGEST_SHEET, LITERALS, SHEET_BUFFER};
+use crate::routines::{holds, project_into, strict_project_into};
+use crate::sheet::Sheet;
+use crate::{LeafError, Literal, Predicate, PredicateOperator, Refusal, Transform, Type, Value};
+
+/// An operator with its literals on a column, and the transform that splits the table by this column.
+///
+/// There is a constructor for each kind of operator, so that a leaf has as many literals as its operator takes and they all have
+/// the column's type.
+#[derive(Clone, Debug, PartialEq, Eq, Hash)]
+pub struct Leaf {
+    sheet: Sheet,
+}
+
+impl Leaf {
+    /// A leaf without a literal: IsNull, NotNull, IsNan, NotNan.
+    ///
+    /// ```
+    /// use weighpick::{Leaf, PredicateOperator, Transform, Type};
+    ///
+    /// let leaf = Leaf::unary(PredicateOperator::IsNull, Type::Date, Transform::Month)?;
+    /// let read = leaf.project()?.expect("IsNull passes through");
+    /// assert_eq!((read.operator(), read.column_type()), (PredicateOperator::IsNull, Type::Int));
+    ///
+    /// assert!(Leaf::unary(PredicateOperator::Eq, Type::Date, Transform::Month).is_err());
+    /// # Ok::<(), Box<dyn std::error::Error>>(())
+    /// ```
+    pub fn unary(
+        operator: PredicateOperator,
+        column_type: Type,
+        transform: Transform,
+    ) -> Result<Leaf, LeafError> {
+        if !operator.is_unary() {
+            return Err(LeafError::WrongOperator(operator));
+        }
+        let sheet = Sheet::new(operator, column_type, transform);
+        Ok(Leaf { sheet })
+    }
+
+    /// A leaf with one literal, which has the column's type: the comparisons, StartsWith and NotStartsWith.
+    ///
+    /// ```
+    /// use weighpick::{Leaf, Literal, PredicateOperator, Transform};
+    ///
+    /// let lots = Leaf::binary(PredicateOperator::StartsWith, Transform::Truncate(2), &Literal::string("ab12"))?;
+    /// let read = lots.project()?.expect("StartsWith has an inclusive projection");
+    /// assert_eq!(read.literals().collect::<Vec<_>>(), [Literal::string("ab")]);
+    /// assert_eq!(lots.strict_project()?, None);
+    /// # Ok::<(), Box<dyn std::error::Error>>(())
+    /// ```
+    pub fn binary(
+        operator: PredicateOperator,
+        transform: Transform,
+        literal: &Literal,
+    ) -> Result<Leaf, LeafError> {
+        if !operator.is_binary() {
+            return Err(LeafError::WrongOperator(operator));
+        }
+        let mut sheet = Sheet::new(operator, literal.column_type(), transform);
+        sheet.push(literal)?;
+        Ok(Leaf { sheet })
+    }
+
+    /// A leaf with a set of at most [`LITERALS`](crate::sheet::LITERALS) literals, repeats among them: In, NotIn.
+    ///
+    /// ```
+    /// use weighpick::{Leaf, Literal, PredicateOperator, Transform, Type};
+    ///
+    /// let moments = [Literal::Timestamp(0), Literal::Timestamp(86_400_000_000)];
+    /// let leaf = Leaf::set(PredicateOperator::In, Type::Timestamp, Transform::Day, &moments)?;
+    /// let read = leaf.project()?.expect("In has an inclusive projection");
+    /// assert_eq!(read.literals().collect::<Vec<_>>(), [Literal::Date(0), Literal::Date(1)]);
+    /// # Ok::<(), Box<dyn std::error::Error>>(())
+    /// ```
+    pub fn set<'a>(
+        operator: PredicateOperator,
+        column_type: Type,
+        transform: Transform,
+        literals: impl IntoIterator<Item = &'a Literal>,
+    ) -> Result<Leaf, LeafError> {
+        if !operator.is_set() {
+            return Err(LeafError::WrongOperator(operator));
+        }
+        let mut sheet = Sheet::new(operator, column_type, transform);
+        for literal in literals {
+            if sheet.len() == LITERALS {
+                return Err(LeafError::TooMany(LITERALS));
+            }
+            sheet.push(literal)?;
+        }
+        Ok(Leaf { sheet })
+    }
+
+    /// Reads the sheet of a leaf, as [`as_bytes`](Leaf::as_bytes) gives it or as another program wrote it.
+    pub fn from_bytes(bytes: &[u8]) -> Result<Leaf, Refusal> {
+        if bytes.len() > LARGEST_SHEET {
+            return Err(Refusal::Malformed);
+        }
+        let sheet = Sheet::from_bytes(bytes)?;
+        Ok(Leaf { sheet })
+    }
+
+    /// Its sheet, as the routines of [`sheet`](crate::sheet) take it.
+    pub fn as_bytes(&self) -> &[u8] {
+        self.sheet.as_bytes()
+    }
+
+    /// Its operator.
+    pub fn operator(&self) -> PredicateOperator {
+        self.sheet.operator()
+    }
+
+    /// The column's type.
+    pub fn column_type(&self) -> Type {
+        self.sheet.column_type()
+    }
+
+    /// The transform that splits the table.
+    pub fn transform(&self) -> Transform {
+        self.sheet.transform()
+    }
+
+    /// Its literals, as they were given.
+    pub fn literals(&self) -> impl ExactSizeIterator<Item = Literal> + '_ {
+        self.sheet.literals()
+    }
+
+    /// The inclusive projection: a predicate that accepts the partition value of every row that meets the leaf, or none.
+    pub fn project(&self) -> Result<Option<Predicate>, Refusal> {
+        let mut out = [0; SHEET_BUFFER];
+        let answer = project_into(self.as_bytes(), &mut out)?;
+        Ok(answer.map(Predicate::read))
+    }
+
+    /// The strict projection: a predicate that accepts only partition values all of whose rows meet the leaf, or none.
+    pub fn strict_project(&self) -> Result<Option<Predicate>, Refusal> {
+        let mut out = [0; SHEET_BUFFER];
+        let answer = strict_project_into(self.as_bytes(), &mut out)?;
+        Ok(answer.map(Predicate::read))
+    }
+
+    /// Whether a row with this value meets the leaf. A value of another type than the column's is [`Refusal::Malformed`].
+    pub fn holds(&self, value: &Value) -> Result<bool, Refusal> {
+        holds(self.as_bytes(), &value.to_record(self.column_type())?)
+    }
+}

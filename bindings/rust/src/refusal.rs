@@ -1,0 +1,75 @@
+//! Why the library refuses: document 01's answers 2 to 8.
+
+use std::error::Error;
+use std::fmt::{self, Display, Formatter};
+
+/// A refusal. Nothing was written.
+///
+/// ```
+/// use weighpick::{Literal, Refusal, Transform, Type};
+///
+/// // A time of day has no year.
+/// let refused = Transform::Year.transform_literal(Type::Time, &Literal::Time(0).into());
+/// assert_eq!(refused, Err(Refusal::NoResultType));
+/// assert_eq!(Refusal::NoResultType.number(), 5);
+/// ```
+#[derive(Clone, Copy, Debug, PartialEq, Eq, Hash)]
+#[non_exhaustive]
+#[repr(u32)]
+pub enum Refusal {
+    /// The result buffer is under [`SHEET_BUFFER`](crate::sheet::SHEET_BUFFER) bytes, or under one record for one value.
+    BufferTooSmall = 2,
+    /// A sheet or value against the rules of its format.
+    Malformed = 3,
+    /// A String literal or value is not UTF-8.
+    NotUtf8 = 4,
+    /// The transform has no result type for the column's type.
+    NoResultType = 5,
+    /// The crate iceberg answers `ErrorKind::DataInvalid`.
+    DataInvalid = 6,
+    /// The crate iceberg answers `ErrorKind::FeatureUnsupported`.
+    FeatureUnsupported = 7,
+    /// A number leaves its type; the crate iceberg panics or wraps there.
+    Overflow = 8,
+}
+
+impl Refusal {
+    /// All refusals, by number.
+    pub const ALL: [Refusal; 7] = [
+        Refusal::BufferTooSmall,
+        Refusal::Malformed,
+        Refusal::NotUtf8,
+        Refusal::NoResultType,
+        Refusal::DataInvalid,
+        Refusal::FeatureUnsupported,
+        Refusal::Overflow,
+    ];
+
+    /// Document 01's number.
+    pub fn number(self) -> u32 {
+        self as u32
+    }
+
+    /// The refusal with one of document 01's numbers.
+    pub fn from_number(number: u32) -> Option<Refusal> {
+        Refusal::ALL.into_iter().find(|r| r.number() == number)
+    }
+}
+
+impl Display for Refusal {
+    fn fmt(&self, f: &mut Formatter<'_>) -> fmt::Result {
+        f.write_str(match self {
+            Refusal::BufferTooSmall => "the result buffer is too small",
+            Refusal::Malformed => "malformed sheet or value",
+            Refusal::NotUtf8 => "a string is not UTF-8",
+            Refusal::NoResultType => "the transform does not apply to the column's type",
+            Refusal::DataInvalid => {
+                "no such partition value: the calendar or the width is exceeded"
+            }
+            Refusal::FeatureUnsupported => "the transform is not supported here",
+            Refusal::Overflow => "a number leaves the range of its type",
+        })
+    }
+}
+
+impl Error for Refusal {}

@@ -1,0 +1,131 @@
+//! The transforms that split tables, and the transform of one value.
+
+use std::fmt::{self, Display, Formatter};
+
+use crate::record::VALUE_BUFFER;
+use crate::routines::transform_into;
+use crate::{Refusal, Type, Value};
+
+/// How a column's value becomes a partition value.
+#[derive(Clone, Copy, Debug, PartialEq, Eq, Hash)]
+#[non_exhaustive]
+pub enum Transform {
+    /// The value itself.
+    Identity,
+    /// A number's step of this width, or so many first code points of a string.
+    Truncate(u32),
+    /// Years from 1970.
+    Year,
+    /// Months from January 1970.
+    Month,
+    /// Days from 1970-01-01.
+    Day,
+    /// Hours from 1970-01-01.
+    Hour,
+    /// Nothing: every partition value is missing.
+    Void,
+    /// A transform that this version does not know.
+    Unknown,
+}
+
+impl Transform {
+    /// Its number in a sheet.
+    pub fn number(self) -> u8 {
+        match self {
+            Transform::Identity => 0,
+            Transform::Truncate(_) => 1,
+            Transform::Year => 2,
+            Transform::Month => 3,
+            Transform::Day => 4,
+            Transform::Hour => 5,
+            Transform::Void => 6,
+            Transform::Unknown => 7,
+        }
+    }
+
+    /// Its width in a sheet; 0 unless it is Truncate.
+    pub fn width(self) -> u32 {
+        match self {
+            Transform::Truncate(width) => width,
+            _ => 0,
+        }
+    }
+
+    /// The transform with a number of document 01's list and a width.
+    pub fn from_numbers(number: u8, width: u32) -> Option<Transform> {
+        let found = match number {
+            0 => Transform::Identity,
+            1 => Transform::Truncate(width),
+            2 => Transform::Year,
+            3 => Transform::Month,
+            4 => Transform::Day,
+            5 => Transform::Hour,
+            6 => Transform::Void,
+            7 => Transform::Unknown,
+            _ => return None,
+        };
+        (found.width() == width).then_some(found)
+    }
+
+    /// The type of its partition values. A pair that has none is [`Refusal::NoResultType`], Unknown
+    /// [`Refusal::FeatureUnsupported`].
+    ///
+    /// ```
+    /// use weighpick::{Transform, Type};
+    ///
+    /// assert_eq!(Transform::Day.result_type(Type::Timestamp), Ok(Type::Date));
+    /// ```
+    pub fn result_type(self, column_type: Type) -> Result<Type, Refusal> {
+        use Type::*;
+        let timestamp = matches!(
+            column_type,
+            Timestamp | Timestamptz | TimestampNs | TimestamptzNs
+        );
+        let calendar = timestamp || column_type == Date;
+        match self {
+            Transform::Identity | Transform::Void => Ok(column_type),
+            Transform::Unknown => Err(Refusal::FeatureUnsupported),
+            Transform::Truncate(_) if matches!(column_type, Int | Long | String | Binary) => {
+                Ok(column_type)
+            }
+            Transform::Year | Transform::Month if calendar => Ok(Int),
+            Transform::Day if calendar => Ok(Date),
+            Transform::Hour if timestamp => Ok(Int),
+            _ => Err(Refusal::NoResultType),
+        }
+    }
+
+    /// The partition value of a value in a column of a type.
+    ///
+    /// ```
+    /// use weighpick::{Literal, Transform, Type};
+    ///
+    /// // One second before 1969-12-31 began.
+    /// let moment = Literal::Timestamp(-86_401_000_000).into();
+    /// let day = Transform::Day.transform_literal(Type::Timestamp, &moment)?;
+    /// assert_eq!(day, Literal::Date(-2).into());
+    /// # Ok::<(), weighpick::Refusal>(())
+    /// ```
+    pub fn transform_literal(self, column_type: Type, value: &Value) -> Result<Value, Refusal> {
+        let record = value.to_record(column_type)?;
+        let mut out = [0; VALUE_BUFFER];
+        transform_into(self, column_type, &record, &mut out)?;
+        Ok(Value::read(self.result_type(column_type)?, &out))
+    }
+}
+
+/// The names of the Iceberg table specification.
+impl Display for Transform {
+    fn fmt(&self, f: &mut Formatter<'_>) -> fmt::Result {
+        match self {
+            Transform::Identity => f.write_str("identity"),
+            Transform::Truncate(width) => write!(f, "truncate[{width}]"),
+            Transform::Year => f.write_str("year"),
+            Transform::Month => f.write_str("month"),
+            Transform::Day => f.write_str("day"),
+            Transform::Hour => f.write_str("hour"),
+            Transform::Void => f.write_str("void"),
+            Transform::Unknown => f.write_str("unknown"),
+        }
+    }
+}

@@ -1,0 +1,76 @@
+//! The C header has the same numbers.
+
+use weighpick::sheet::{
+    ANSWER_LITERALS, CONTENT, LARGEST_SHEET, LITERALS, RECORD, SHEET_BUFFER, VALUE_BUFFER,
+};
+use weighpick::{PredicateOperator, Refusal, Transform, Type};
+
+const HEADER: &str = include_str!("../../c/weighpick.h");
+
+/// The number that the header gives a name, as `NAME = 1,` or `#define NAME 1`.
+fn in_header(name: &str) -> Option<usize> {
+    let name = format!("WEIGHPICK_{name}");
+    HEADER.lines().find_map(|line| {
+        let line = line.trim_start().trim_start_matches("#define ");
+        let rest = line.strip_prefix(&name)?.strip_prefix(' ')?;
+        let word = rest.trim_start_matches("= ").split([' ', ',']).next()?;
+        word.parse().ok()
+    })
+}
+
+/// A Rust name as C writes it: `LessThan` is `LESS_THAN`.
+fn c_name(variant: impl std::fmt::Debug) -> String {
+    let mut name = String::new();
+    for letter in format!("{variant:?}").chars() {
+        if letter.is_uppercase() && !name.is_empty() {
+            name.push('_');
+        }
+        name.push(letter.to_ascii_uppercase());
+    }
+    name
+}
+
+#[test]
+fn sizes() {
+    let sizes = [
+        ("RECORD", RECORD),
+        ("CONTENT", CONTENT),
+        ("LITERALS", LITERALS),
+        ("ANSWER_LITERALS", ANSWER_LITERALS),
+        ("LARGEST_SHEET", LARGEST_SHEET),
+        ("SHEET_BUFFER", SHEET_BUFFER),
+        ("VALUE_BUFFER", VALUE_BUFFER),
+    ];
+    for (name, size) in sizes {
+        assert_eq!(in_header(name), Some(size), "{name}");
+    }
+}
+
+#[test]
+fn numbers() {
+    for operator in PredicateOperator::ALL {
+        let number = in_header(&c_name(operator));
+        assert_eq!(number, Some(operator.number().into()), "{operator:?}");
+    }
+    for column_type in Type::ALL {
+        let number = in_header(&c_name(column_type));
+        assert_eq!(number, Some(column_type.number().into()), "{column_type:?}");
+    }
+    for refusal in Refusal::ALL {
+        let number = in_header(&c_name(refusal));
+        assert_eq!(number, Some(refusal.number() as usize), "{refusal:?}");
+    }
+    assert_eq!(in_header("RESULT"), Some(0));
+    assert_eq!(in_header("NONE"), Some(1));
+}
+
+#[test]
+fn transforms() {
+    assert_eq!(in_header("TRUNCATE"), Some(1));
+    for number in (0..=u8::MAX).filter(|&number| number != 1) {
+        if let Some(transform) = Transform::from_numbers(number, 0) {
+            let in_header = in_header(&c_name(transform));
+            assert_eq!(in_header, Some(number.into()), "{transform:?}");
+        }
+    }
+}

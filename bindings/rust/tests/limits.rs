@@ -1,0 +1,108 @@
+//! Leaves that cannot be built, and the largest that can.
+
+use weighpick::sheet::{Sheet, ANSWER_LITERALS, CONTENT, LARGEST_SHEET, LITERALS, SHEET_BUFFER};
+use weighpick::{Leaf, LeafError, Literal, PredicateOperator, Refusal, Transform, Type};
+
+/// In of some Ints.
+fn set_of(literals: &[Literal]) -> Result<Leaf, LeafError> {
+    Leaf::set(
+        PredicateOperator::In,
+        Type::Int,
+        Transform::Identity,
+        literals,
+    )
+}
+
+#[test]
+fn the_sizes_of_document_01() {
+    assert_eq!((CONTENT, LITERALS, ANSWER_LITERALS), (60, 64, 128));
+    assert_eq!((LARGEST_SHEET, SHEET_BUFFER), (4160, 8256));
+}
+
+#[test]
+fn each_constructor_takes_its_operators() {
+    let literal = Literal::Int(1);
+    for operator in PredicateOperator::ALL {
+        let wrong = Err(LeafError::WrongOperator(operator));
+        let unary = Leaf::unary(operator, Type::Int, Transform::Identity);
+        let binary = Leaf::binary(operator, Transform::Identity, &literal);
+        let set = Leaf::set(operator, Type::Int, Transform::Identity, [&literal]);
+        let taken = [unary, binary, set].map(|leaf| leaf != wrong);
+        let hundreds = operator.number() / 100;
+        assert_eq!(taken, [1, 2, 3].map(|kind| kind == hundreds), "{operator}");
+    }
+}
+
+#[test]
+fn a_set_has_literals_of_one_type() {
+    let mixed = set_of(&[Literal::Int(1), Literal::Date(1)]);
+    assert_eq!(mixed, Err(LeafError::WrongType(Type::Int, Type::Date)));
+}
+
+#[test]
+fn the_longest_literals() {
+    for text in ["a".repeat(CONTENT), "é".repeat(CONTENT / 2)] {
+        let operator = PredicateOperator::StartsWith;
+        let leaf = Leaf::binary(operator, Transform::Identity, &Literal::string(&text));
+        let leaf = leaf.expect("as long as a record's content");
+        assert_eq!(
+            leaf.literals().collect::<Vec<_>>(),
+            [Literal::string(&text)]
+        );
+        assert!(leaf.project().is_ok());
+        let longer = Literal::string(text + "a");
+        let refused = Leaf::binary(operator, Transform::Identity, &longer);
+        assert_eq!(refused, Err(LeafError::TooLong(CONTENT + 1)));
+    }
+    let bytes = Literal::binary(vec![0; 1 << 16]);
+    let refused = Leaf::binary(PredicateOperator::Eq, Transform::Identity, &bytes);
+    assert_eq!(refused, Err(LeafError::TooLong(1 << 16)));
+}
+
+#[test]
+fn the_largest_set() {
+    let mut literals: Vec<Literal> = (0..LITERALS as i32).rev().map(Literal::Int).collect();
+    let leaf = set_of(&literals).expect("as many as a sheet takes");
+    assert_eq!(leaf.as_bytes().len(), LARGEST_SHEET);
+    assert_eq!(Leaf::from_bytes(leaf.as_bytes()).as_ref(), Ok(&leaf));
+    let read = leaf.project().expect("Identity refuses nothing");
+    literals.reverse();
+    let ascending: Vec<Literal> = read.expect("the leaf itself").literals().collect();
+    assert_eq!(ascending, literals);
+    literals.push(Literal::Int(0));
+    assert_eq!(set_of(&literals), Err(LeafError::TooMany(LITERALS)));
+}
+
+#[test]
+fn the_largest_predicate() {
+    // Every second day before 1970: each is lifted to the next, and none of them meet.
+    let days = (1..=LITERALS as i64).map(|n| Literal::Timestamp(-2 * n * 86_400_000_000));
+    let days: Vec<Literal> = days.collect();
+    let leaf = Leaf::set(
+        PredicateOperator::In,
+        Type::Timestamp,
+        Transform::Day,
+        &days,
+    );
+    let read = leaf.expect("as many as a sheet takes").project();
+    let read = read.expect("no refusal").expect("In has a projection");
+    assert_eq!(read.literals().len(), ANSWER_LITERALS);
+    assert_eq!(read.as_bytes().len(), SHEET_BUFFER);
+    let all = (-2 * LITERALS as i32..0).map(Literal::Date);
+    assert!(read.literals().eq(all.clone()));
+    assert!(all.map(Into::into).all(|day| read.holds(&day) == Ok(true)));
+    assert_eq!(read.holds(&Literal::Date(0).into()), Ok(false));
+    // As a leaf it has too many.
+    assert_eq!(Leaf::from_bytes(read.as_bytes()), Err(Refusal::Malformed));
+}
+
+#[test]
+fn a_sheet_takes_as_many_literals_as_an_answer_has() {
+    let mut sheet = Sheet::new(PredicateOperator::In, Type::Int, Transform::Identity);
+    for n in 0..ANSWER_LITERALS as i32 {
+        assert_eq!(sheet.push(&Literal::Int(n)), Ok(()));
+    }
+    let refused = sheet.push(&Literal::Int(0));
+    assert_eq!(refused, Err(LeafError::TooMany(ANSWER_LITERALS)));
+    assert_eq!(Sheet::from_bytes(sheet.as_bytes()), Ok(sheet));
+}

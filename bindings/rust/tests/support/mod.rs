@@ -1,0 +1,79 @@
+//! What several tests use: a generator of leaves and rows that gives the same ones every time, and when a row meets a leaf.
+
+// Each test is a program of its own and uses a part of this module.
+#![allow(dead_code)]
+
+pub mod meets;
+pub mod sample;
+
+use weighpick::sheet::{project_into, strict_project_into, SHEET_BUFFER};
+use weighpick::{Literal, Predicate, PredicateOperator, Refusal, Transform, Type};
+
+/// What a buffer holds before a call, so that a byte written to it shows.
+pub const BEFORE: u8 = 0xa5;
+
+/// All transforms, with some widths.
+pub const TRANSFORMS: [Transform; 12] = [
+    Transform::Identity,
+    Transform::Truncate(0),
+    Transform::Truncate(1),
+    Transform::Truncate(2),
+    Transform::Truncate(10),
+    Transform::Truncate(u32::MAX),
+    Transform::Year,
+    Transform::Month,
+    Transform::Day,
+    Transform::Hour,
+    Transform::Void,
+    Transform::Unknown,
+];
+
+/// The literal of a number type with a number that lies in it.
+pub fn number(column_type: Type, v: i64) -> Option<Literal> {
+    Some(match column_type {
+        Type::Int => Literal::Int(v.try_into().ok()?),
+        Type::Long => Literal::Long(v),
+        Type::Date => Literal::Date(v.try_into().ok()?),
+        Type::Time => Literal::Time(v),
+        Type::Timestamp => Literal::Timestamp(v),
+        Type::Timestamptz => Literal::Timestamptz(v),
+        Type::TimestampNs => Literal::TimestampNs(v),
+        Type::TimestamptzNs => Literal::TimestamptzNs(v),
+        Type::String | Type::Binary => return None,
+    })
+}
+
+/// The number of a literal of a number type.
+pub fn number_of(literal: &Literal) -> Option<i64> {
+    match literal {
+        Literal::Int(v) | Literal::Date(v) => Some(i64::from(*v)),
+        Literal::Long(v)
+        | Literal::Time(v)
+        | Literal::Timestamp(v)
+        | Literal::Timestamptz(v)
+        | Literal::TimestampNs(v)
+        | Literal::TimestamptzNs(v) => Some(*v),
+        Literal::String(_) | Literal::Binary(_) => None,
+    }
+}
+
+/// A projection's answer as operator and literals.
+pub fn said(
+    answer: Result<Option<Predicate>, Refusal>,
+) -> Result<Option<(PredicateOperator, Vec<Literal>)>, Refusal> {
+    Ok(answer?.map(|p| (p.operator(), p.literals().collect())))
+}
+
+/// The inclusive and the strict answer sheet of a sheet, each asked with a buffer of its own. Every byte of the buffer behind the
+/// answer, all of them where there is none, is as it was.
+pub fn both(sheet: &[u8]) -> [Result<Option<Vec<u8>>, Refusal>; 2] {
+    [project_into, strict_project_into].map(|projection| {
+        let mut out = [BEFORE; SHEET_BUFFER + 1];
+        let answer = projection(sheet, &mut out).map(|found| found.map(<[u8]>::to_vec));
+        let written = answer
+            .as_ref()
+            .map_or(0, |found| found.as_ref().map_or(0, Vec::len));
+        assert!(out[written..].iter().all(|&byte| byte == BEFORE));
+        answer
+    })
+}
