@@ -1,11 +1,15 @@
 // What a routine that writes a result answers.
+use sheet::records::RECORD_SIZE;
 use values::error::ErrorKind;
 ghost use mathlib.Core.Path.{_≡_};
 ghost use Rattle.answers.specs.Answers.{answerNumber, answerCount};
 
+// The bytes of a record, as they are counted in an answer.
+pub const RECORD: u16 = RECORD_SIZE as u16;
+
 pub enum Answer {
-    // So many bytes of the buffer are the result.
-    Written(usize),
+    // So many bytes of the buffer are the result; 16 bits hold the longest, and keep an answer at four bytes.
+    Written(u16),
     NoPredicate,
     BufferTooSmall,
     Err(ErrorKind),
@@ -29,7 +33,7 @@ impl Answer {
         ensures { λ r. ⌜ r ≡ answerCount self ⌝ }
     {
         match self {
-            Answer::Written(n) => n,
+            Answer::Written(n) => n as usize,
             Answer::NoPredicate => 0,
             Answer::BufferTooSmall => 0,
             Answer::Err(_) => 0,

@@ -1,5 +1,7 @@
 // A leaf to be projected: the checks before the steps, and the steps by the operator and the column's type.
+// An arm that calls returns, so that the answer is written where it belongs and is not copied from arm to arm.
 use crate::answer::Answer;
+use crate::answer::RECORD;
 use crate::number;
 use crate::string;
 use expr::operator::PredicateOperator;
@@ -7,7 +9,6 @@ use partition::result::result_type;
 use projection::question::Question;
 use sheet::content::literals_ok;
 use sheet::head::Head;
-use sheet::records::RECORD_SIZE;
 use values::datatypes::PrimitiveType;
 use values::datatypes::TypeResult;
 use values::error::ErrorKind;
@@ -42,7 +43,7 @@ fn project_unary(x: Leaf, s: &[u8], numbers: &[u16], out: &mut [u8]) -> Answer
     let operator = x.operator;
     let to = x.to;
     put_no_literal(out, operator, to);
-    Answer::Written(RECORD_SIZE)
+    Answer::Written(RECORD)
 }
 
 // A leaf with one literal.
@@ -53,9 +54,9 @@ fn project_binary(x: Leaf, s: &[u8], numbers: &[u16], out: &mut [u8]) -> Answer
 {
     let column = x.column;
     match column {
-        PrimitiveType::String => string::project_one(x, s, numbers, out),
-        PrimitiveType::Binary => string::project_one(x, s, numbers, out),
-        _ => number::project_one(x, s, numbers, out),
+        PrimitiveType::String => return string::project_one(x, s, numbers, out),
+        PrimitiveType::Binary => return string::project_one(x, s, numbers, out),
+        _ => return number::project_one(x, s, numbers, out),
     }
 }
 
@@ -98,9 +99,9 @@ fn project_set(x: Leaf, s: &[u8], numbers: &[u16], out: &mut [u8]) -> Answer
         return Answer::NoPredicate;
     }
     match column {
-        PrimitiveType::String => string::project_set(x, s, numbers, out),
-        PrimitiveType::Binary => string::project_set(x, s, numbers, out),
-        _ => number::project_set(x, s, numbers, out),
+        PrimitiveType::String => return string::project_set(x, s, numbers, out),
+        PrimitiveType::Binary => return string::project_set(x, s, numbers, out),
+        _ => return number::project_set(x, s, numbers, out),
     }
 }
 
@@ -111,13 +112,13 @@ fn project_known(x: Leaf, s: &[u8], numbers: &[u16], out: &mut [u8]) -> Answer
 {
     let operator = x.operator;
     match operator {
-        PredicateOperator::IsNull => project_unary(x, s, numbers, out),
-        PredicateOperator::NotNull => project_unary(x, s, numbers, out),
-        PredicateOperator::IsNan => project_unary(x, s, numbers, out),
-        PredicateOperator::NotNan => project_unary(x, s, numbers, out),
-        PredicateOperator::In => project_set(x, s, numbers, out),
-        PredicateOperator::NotIn => project_set(x, s, numbers, out),
-        _ => project_binary(x, s, numbers, out),
+        PredicateOperator::IsNull => return project_unary(x, s, numbers, out),
+        PredicateOperator::NotNull => return project_unary(x, s, numbers, out),
+        PredicateOperator::IsNan => return project_unary(x, s, numbers, out),
+        PredicateOperator::NotNan => return project_unary(x, s, numbers, out),
+        PredicateOperator::In => return project_set(x, s, numbers, out),
+        PredicateOperator::NotIn => return project_set(x, s, numbers, out),
+        _ => return project_binary(x, s, numbers, out),
     }
 }
 
@@ -129,9 +130,9 @@ fn project_checked(x: Leaf, s: &[u8], numbers: &[u16], out: &mut [u8]) -> Answer
 {
     let transform = x.transform;
     match transform {
-        Transform::Void => Answer::NoPredicate,
-        Transform::Unknown => Answer::Err(ErrorKind::FeatureUnsupported),
-        _ => project_known(x, s, numbers, out),
+        Transform::Void => return Answer::NoPredicate,
+        Transform::Unknown => return Answer::Err(ErrorKind::FeatureUnsupported),
+        _ => return project_known(x, s, numbers, out),
     }
 }
 
@@ -153,18 +154,17 @@ pub fn project_leaf(
     if !literals_ok(s, numbers, count, column) {
         return Answer::Err(ErrorKind::NotUtf8);
     }
-    match result_type(transform, column) {
-        TypeResult::Err(e) => Answer::Err(e),
-        TypeResult::Ok(to) => {
-            let x = Leaf {
-                question,
-                operator,
-                column,
-                transform,
-                count,
-                to,
-            };
-            project_checked(x, s, numbers, out)
-        }
-    }
+    let to = match result_type(transform, column) {
+        TypeResult::Err(e) => return Answer::Err(e),
+        TypeResult::Ok(to) => to,
+    };
+    let x = Leaf {
+        question,
+        operator,
+        column,
+        transform,
+        count,
+        to,
+    };
+    project_checked(x, s, numbers, out)
 }

@@ -1,5 +1,6 @@
 // A leaf over a whole-number or time column.
 use crate::answer::Answer;
+use crate::answer::RECORD;
 use crate::leaf::Leaf;
 use expr::operator::PredicateOperator;
 use numbers::steps::NumberProjection;
@@ -9,7 +10,6 @@ use projection::question::Question;
 use sets::number::Collected;
 use sets::number::project_set_expr;
 use sheet::literal::number_of;
-use sheet::records::RECORD_SIZE;
 use values::datatypes::PrimitiveType;
 use values::transform::Transform;
 use write::answer::put_numbers;
@@ -35,11 +35,11 @@ fn put_projection(to: PrimitiveType, p: NumberProjection, out: &mut [u8]) -> Ans
         NumberProjection::Err(e) => Answer::Err(e),
         NumberProjection::One(operator, t) => {
             put_one_number(out, operator, to, t);
-            Answer::Written(RECORD_SIZE * 2)
+            Answer::Written(RECORD * 2)
         }
         NumberProjection::Two(t) => {
             put_two_numbers(out, PredicateOperator::In, to, t, t + 1);
-            Answer::Written(RECORD_SIZE * 3)
+            Answer::Written(RECORD * 3)
         }
     }
 }
@@ -97,7 +97,7 @@ pub fn project_set(x: Leaf, s: &[u8], numbers: &[u16], out: &mut [u8]) -> Answer
         Collected::Err(e) => Answer::Err(e),
         Collected::Count(n) => {
             put_numbers(out, operator, to, &set, n);
-            Answer::Written(RECORD_SIZE * (n + 1))
+            Answer::Written(RECORD * (n + 1) as u16)
         }
     }
 }

@@ -1,10 +1,10 @@
 // A leaf over a String or Binary column.
 use crate::answer::Answer;
+use crate::answer::RECORD;
 use crate::leaf::Leaf;
 use sets::number::Collected;
 use sets::string::project_set_expr;
 use sheet::literal::content_of;
-use sheet::records::RECORD_SIZE;
 use strings::steps::BytesProjection;
 use strings::steps::project_bytes;
 use values::datatypes::PrimitiveType;
@@ -34,7 +34,7 @@ fn put_projection(to: PrimitiveType, p: BytesProjection, l: &[u8], out: &mut [u8
         BytesProjection::Err(e) => Answer::Err(e),
         BytesProjection::Prefix(operator, n) => {
             put_one_string(out, operator, to, &l[..n]);
-            Answer::Written(RECORD_SIZE * 2)
+            Answer::Written(RECORD * 2)
         }
     }
 }
@@ -80,7 +80,7 @@ pub fn project_set(x: Leaf, s: &[u8], numbers: &[u16], out: &mut [u8]) -> Answer
         Collected::Err(e) => Answer::Err(e),
         Collected::Count(n) => {
             put_strings(out, operator, to, s, &sizes, &set, n);
-            Answer::Written(RECORD_SIZE * (n + 1))
+            Answer::Written(RECORD * (n + 1) as u16)
         }
     }
 }

@@ -1,5 +1,6 @@
 // A row to be transformed: its partition value, written as a record.
 use crate::answer::Answer;
+use crate::answer::RECORD;
 use partition::bytes::BytesResult;
 use partition::bytes::transform_bytes;
 use partition::number::NumberResult;
@@ -9,7 +10,6 @@ use partition::result::result_type;
 use sheet::content::number_in;
 use sheet::content::value_utf8;
 use sheet::literal::content_of;
-use sheet::records::RECORD_SIZE;
 use sheet::value::ValueResult;
 use sheet::value::read_value;
 use values::datatypes::PrimitiveType;
@@ -65,11 +65,11 @@ fn transform_number_row(
         NumberResult::Err(e) => Answer::Err(e),
         NumberResult::Missing => {
             put_missing(out);
-            Answer::Written(RECORD_SIZE)
+            Answer::Written(RECORD)
         }
         NumberResult::Value(t) => {
             put_number(out, 0, 0, to, t);
-            Answer::Written(RECORD_SIZE)
+            Answer::Written(RECORD)
         }
     }
 }
@@ -90,11 +90,11 @@ fn transform_bytes_row(
         BytesResult::Err(e) => Answer::Err(e),
         BytesResult::Missing => {
             put_missing(out);
-            Answer::Written(RECORD_SIZE)
+            Answer::Written(RECORD)
         }
         BytesResult::Prefix(n) => {
             put_string(out, 0, 0, &content[..n]);
-            Answer::Written(RECORD_SIZE)
+            Answer::Written(RECORD)
         }
     }
 }

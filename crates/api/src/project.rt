@@ -24,12 +24,11 @@ fn project_sheet(question: Question, sheet: &[u8], out: &mut [u8]) -> Answer
         return Answer::BufferTooSmall;
     }
     let mut numbers = [0; HOLDS_LIMIT];
-    match read_sheet(sheet, PROJECT_LIMIT, &mut numbers) {
-        SheetResult::Err(e) => Answer::Err(e),
-        SheetResult::Ok(read) => {
-            project_leaf(question, read.head, read.count, sheet, &numbers, out)
-        }
-    }
+    let read = match read_sheet(sheet, PROJECT_LIMIT, &mut numbers) {
+        SheetResult::Err(e) => return Answer::Err(e),
+        SheetResult::Ok(read) => read,
+    };
+    project_leaf(question, read.head, read.count, sheet, &numbers, out)
 }
 
 // Which partition values may have a row that meets the sheet's leaf.

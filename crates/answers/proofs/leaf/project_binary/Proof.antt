@@ -36,11 +36,11 @@ project-binary-spec =
     (search needs)
     (λ c κs. search needs)
     (search needs)
-    (λ c κs. search needs)
-    project-one-requires-3
-    (search needs)
     returns
     (search needs)
+    (λ c κs. search needs)
+    (search needs)
     returns-2
+    project-one-requires-3
     (search needs)
     returns-3)

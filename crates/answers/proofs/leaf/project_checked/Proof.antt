@@ -27,4 +27,4 @@ returns-2 c =
 pub project-checked-spec : {M : Type 1} → statement M
 project-checked-spec =
     tie.close
-    (tie.spec (search needs) (search needs) project-known-requires returns returns-2 (search needs) (λ c. search needs))
+    (tie.spec (search needs) returns (search needs) returns-2 project-known-requires (search needs) (λ c. search needs))

@@ -85,8 +85,8 @@ project-leaf-spec =
     returns
     (search needs)
     (search needs)
+    returns-2
     (search needs)
     project-checked-requires
-    returns-2
     (search needs)
     returns-3)

@@ -65,11 +65,11 @@ project-set-spec =
     (search needs)
     project-set-requires
     (search needs)
-    project-set-requires-2
-    project-set-requires-3
-    (search needs)
     returns-2
     (search needs)
+    project-set-requires-2
+    (search needs)
     returns-3
+    project-set-requires-3
     (search needs)
     returns-4)

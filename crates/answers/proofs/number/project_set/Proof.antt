@@ -37,8 +37,11 @@ put-numbers-requires c κs =
 add-t22 : tie.Need-add-t22
 add-t22 c = let h = few (c .before .before .before .before .before .before) in search needs
 
-mul-t23 : tie.Need-mul-t23
-mul-t23 c = let h = few (c .before .before .before .before .before .before) in search needs
+cast-t23 : tie.Need-cast-t23
+cast-t23 c = let h = few (c .before .before .before .before .before .before) in search needs
+
+mul-t24 : tie.Need-mul-t24
+mul-t24 c = let h = few (c .before .before .before .before .before .before) in search needs
 
 returns : tie.Need-returns
 returns c =
@@ -65,7 +68,8 @@ project-set-spec =
     (search needs)
     put-numbers-requires
     add-t22
-    mul-t23
+    cast-t23
+    mul-t24
     returns
     (search needs)
     returns-2)

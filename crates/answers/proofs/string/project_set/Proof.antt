@@ -42,8 +42,11 @@ put-strings-requires c κs =
 add-t24 : tie.Need-add-t24
 add-t24 c = record { fits = omega (arith, few (c .before .before .before .before .before .before .before)) }
 
-mul-t25 : tie.Need-mul-t25
-mul-t25 c = record { fits = omega (arith, few (c .before .before .before .before .before .before .before)) }
+cast-t25 : tie.Need-cast-t25
+cast-t25 c = record { fits = omega (arith, few (c .before .before .before .before .before .before .before)) }
+
+mul-t26 : tie.Need-mul-t26
+mul-t26 c = record { fits = omega (arith, few (c .before .before .before .before .before .before .before)) }
 
 returns : tie.Need-returns
 returns c =
@@ -78,7 +81,8 @@ project-set-spec =
     slice-aggregate-put-strings-2
     put-strings-requires
     add-t24
-    mul-t25
+    cast-t25
+    mul-t26
     returns
     (search needs)
     returns-2)

@@ -53,9 +53,9 @@ project-sheet-spec =
     (search needs)
     (λ c κs. search needs)
     (search needs)
+    returns-2
     (search needs)
     (search needs)
     project-leaf-requires
-    returns-2
     (search needs)
     returns-3)
