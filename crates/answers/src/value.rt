@@ -125,13 +125,18 @@ fn transform_row(
     if !value_ok(column, present, content) {
         return Answer::Err(ErrorKind::NotUtf8);
     }
-    match result_type(transform, column) {
-        TypeResult::Err(e) => Answer::Err(e),
-        TypeResult::Ok(to) => match column {
-            PrimitiveType::String => transform_bytes_row(column, transform, present, content, out),
-            PrimitiveType::Binary => transform_bytes_row(column, transform, present, content, out),
-            _ => transform_number_row(column, transform, to, present, content, out),
-        },
+    let to = match result_type(transform, column) {
+        TypeResult::Err(e) => return Answer::Err(e),
+        TypeResult::Ok(to) => to,
+    };
+    match column {
+        PrimitiveType::String => {
+            return transform_bytes_row(column, transform, present, content, out);
+        }
+        PrimitiveType::Binary => {
+            return transform_bytes_row(column, transform, present, content, out);
+        }
+        _ => return transform_number_row(column, transform, to, present, content, out),
     }
 }
 
@@ -146,10 +151,10 @@ pub fn transform_value(
     ensures { λ r. ⌜ Settled (valueAnswer column transform (now (value .entry))) (now (out .entry)) (now (out .exit)) r ⌝ }
 {
     match read_value(value, column) {
-        ValueResult::Err(e) => Answer::Err(e),
-        ValueResult::Missing => transform_row(column, transform, false, value, out),
+        ValueResult::Err(e) => return Answer::Err(e),
+        ValueResult::Missing => return transform_row(column, transform, false, value, out),
         ValueResult::Present(_) => {
-            transform_row(column, transform, true, content_of(value, 0), out)
+            return transform_row(column, transform, true, content_of(value, 0), out);
         }
     }
 }

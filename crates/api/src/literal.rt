@@ -24,11 +24,13 @@ pub fn transform_literal(
     if out.len() < RECORD_SIZE {
         return Answer::BufferTooSmall;
     }
-    match PrimitiveType::from_number(column_type) {
-        TypeResult::Err(e) => Answer::Err(e),
-        TypeResult::Ok(column) => match Transform::from_numbers(transform, width) {
-            TransformResult::Err(e) => Answer::Err(e),
-            TransformResult::Ok(t) => transform_value(column, t, value, out),
-        },
-    }
+    let column = match PrimitiveType::from_number(column_type) {
+        TypeResult::Err(e) => return Answer::Err(e),
+        TypeResult::Ok(column) => column,
+    };
+    let t = match Transform::from_numbers(transform, width) {
+        TransformResult::Err(e) => return Answer::Err(e),
+        TransformResult::Ok(t) => t,
+    };
+    transform_value(column, t, value, out)
 }

@@ -46,8 +46,7 @@ pub fn walk(
     }
     if literal_ok(s, n, column) {
         numbers[filled] = next;
-        walk(s, column, n, filled + 1, numbers)
-    } else {
-        Walked::Malformed
+        return walk(s, column, n, filled + 1, numbers);
     }
+    Walked::Malformed
 }

@@ -104,16 +104,16 @@ transform-row-spec =
     returns
     (λ c κs. search needs)
     (search needs)
+    returns-2
     (search needs)
     (search needs)
     transform-bytes-row-requires
     (search needs)
-    transform-bytes-row-requires-2
-    transform-number-row-requires
-    returns-2
-    (search needs)
     returns-3
     (search needs)
+    transform-bytes-row-requires-2
+    (search needs)
     returns-4
+    transform-number-row-requires
     (search needs)
     returns-5)

@@ -60,13 +60,13 @@ transform-value-spec =
     (tie.spec
     (λ c κs. search needs)
     (search needs)
+    returns
     (search needs)
     transform-row-requires
     (search needs)
+    returns-2
+    (search needs)
     content-of-requires
     transform-row-requires-2
-    returns
-    (search needs)
-    returns-2
     (search needs)
     returns-3)

@@ -68,12 +68,12 @@ transform-literal-spec =
     returns
     (λ c κs. search needs)
     (search needs)
-    (search needs)
-    (λ c κs. search needs)
-    (search needs)
-    (search needs)
-    (λ c κs. search needs)
     returns-2
+    (search needs)
+    (λ c κs. search needs)
+    (search needs)
     returns-3
+    (search needs)
+    (λ c κs. search needs)
     (search needs)
     returns-4)
