@@ -1,0 +1,111 @@
+#!/bin/bash
+# Builds the crate beside the port; `--help` says how.
+set -euo pipefail
+here=$(dirname "$(realpath "$0")")
+
+usage() {
+  cat <<'TEXT'
+build.sh --crate DIR [options]    the crate from DIR, a folder with its published files (DIR/src/..), with stand-ins for what they lean on
+build.sh --registry [options]     the crate from the registry, iceberg = "=0.10.1" with all it needs (UNTRIED: needs a network that this was not built in)
+
+  --lib FILE        the port's static library (default: ../target/staticlib/libweighpick_c.a; `rt staticlib weighpick_c` makes it)
+  --out OUT         everything that is built goes below OUT (default: ../target/compare), nothing is installed
+  --package NAME    build this one program of rust/ (default: all)
+  --profile NAME    cargo profile: release (overflow checks on, the default) or bench-crate (cargo's ordinary release)
+  --test            run the tests of rust/beside, and of the stand-in for chrono, too (profile release)
+
+The last line of the output is the folder of the programs. With --crate, Debian's packages of the real crates are downloaded by name
+(apt-get download; `apt-get update` first on a fresh machine) and unpacked below OUT. STANDINS.md says what stands in for what.
+TEXT
+}
+
+fail() { echo "build.sh: $*" >&2; exit 1; }
+
+crate= registry= package= test= profile=release
+lib=$here/../target/staticlib/libweighpick_c.a
+out=$here/../target/compare
+while [ $# -gt 0 ]; do
+  case $1 in
+    --crate) crate=${2:?--crate needs a folder}; shift 2 ;;
+    --registry) registry=yes; shift ;;
+    --lib) lib=${2:?--lib needs a file}; shift 2 ;;
+    --out) out=${2:?--out needs a folder}; shift 2 ;;
+    --package) package=${2:?--package needs a name}; shift 2 ;;
+    --profile) profile=${2:?--profile needs a name}; shift 2 ;;
+    --test) test=yes; shift ;;
+    --help) usage; exit ;;
+    *) usage >&2; exit 2 ;;
+  esac
+done
+[ -n "$crate" ] || [ -n "$registry" ] || { usage >&2; exit 2; }
+[ -z "$crate" ] || [ -z "$registry" ] || fail "--crate and --registry exclude each other"
+[ -z "$crate" ] || [ -d "$crate/src" ] || fail "no folder $crate/src"
+
+# The port's static library.
+if [ ! -e "$lib" ]; then
+  command -v rt >/dev/null && [ "$(realpath -m "$lib")" = "$(realpath -m "$here/../target/staticlib/libweighpick_c.a")" ] ||
+    fail "no $lib: run \`rt staticlib weighpick_c\` in the repository first"
+  (cd "$here/.." && rt staticlib weighpick_c)
+fi
+WEIGHPICK_LIB=$(realpath "$lib")
+export WEIGHPICK_LIB
+
+# A fresh copy of the sources below OUT; times are kept, so that cargo rebuilds only what changed.
+mkdir -p "$out"
+out=$(realpath "$out")
+work=$out/rust${registry:+-registry}
+rm -rf "$work"
+cp -rp "$here/rust" "$work"
+export CARGO_TARGET_DIR=$out/target${registry:+-registry}
+
+# Debian's packages of the real crates, unpacked below OUT.
+debian_crates() {
+  local packages="chrono fnv serde serde-derive serde-json serde-bytes ordered-float uuid itertools array-init anyhow once-cell
+    num-traits num-integer autocfg itoa ryu either syn quote proc-macro2 unicode-ident"
+  mkdir -p "$out/debs" "$out/vendor"
+  for p in $packages; do
+    compgen -G "$out/debs/librust-$p-dev_*.deb" >/dev/null ||
+      (cd "$out/debs" && apt-get download "librust-$p-dev" >/dev/null 2>&1) ||
+      fail "cannot fetch librust-$p-dev (apt-get update first?)"
+    dpkg-deb -x "$out"/debs/librust-"$p"-dev_*.deb "$out/vendor"
+  done
+}
+
+# The published files at their module paths beside the glue's files, byte for byte.
+published=
+assemble() {
+  cp -rp "$work/iceberg-glue" "$work/iceberg"
+  published=$(cd "$crate" && find src -name '*.rs' | sort)
+  for p in $published; do
+    [ ! -e "$work/iceberg/$p" ] || fail "glue and published files both have $p"
+    mkdir -p "$(dirname "$work/iceberg/$p")"
+    cp -p "$crate/$p" "$work/iceberg/$p"
+  done
+}
+
+unchanged() {
+  for p in $published; do cmp "$crate/$p" "$work/iceberg/$p" || fail "$p is not as published"; done
+}
+
+if [ -n "$registry" ]; then
+  # the same programs; the crate's line in the workspace manifest is another, and nothing stands in
+  rm -rf "$work/.cargo" "$work/Cargo.lock" "$work/iceberg-glue" "$work/standins"
+  sed -i -e 's/"iceberg", //' -e 's/^iceberg = .*/iceberg = "=0.10.1"/' "$work/Cargo.toml"
+  offline=
+else
+  crate=$(realpath "$crate")
+  debian_crates
+  assemble
+  unchanged
+  offline=--offline
+  export CARGO_HOME=$out/cargo-home
+fi
+
+(cd "$work" && cargo build $offline --profile "$profile" ${package:+--package "$package"})
+if [ -n "$test" ]; then
+  (cd "$work" && cargo test $offline --release --package beside)
+  [ -n "$registry" ] || (cd "$work/standins/chrono" && cargo test $offline --release)
+fi
+unchanged
+[ -n "$registry" ] || echo "$(wc -w <<<"$published") published files, unchanged before and after the build"
+echo "$CARGO_TARGET_DIR/$profile"

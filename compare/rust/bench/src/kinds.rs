@@ -1,0 +1,175 @@
+//! The leaves and values that are timed, kind by kind. Moments lie between 1970 and 2030 and strings are ASCII, where
+//! crate and port agree (docs/DIFFERENCES.md); they are drawn from a fixed seed, so every run has the same.
+
+use beside::leaf::{LITERALS, Leaf, Question, column, operator, transform};
+
+/// Leaves of a kind: several, so that no branch is learned from one literal alone.
+const LEAVES: usize = 16;
+/// Sets of a kind: few enough for the nearest cache.
+const SETS: usize = 4;
+/// The width for numbers, and for strings: the start of a lot code.
+const NUMBER_WIDTH: u32 = 10;
+const STRING_WIDTH: u32 = 4;
+/// Lengths of a lot code and of a start shorter than the width.
+const LOT_CODE: usize = 12;
+const SHORT_START: usize = 3;
+/// 60 years in days and in microseconds.
+const DAYS: u64 = 60 * 365;
+const MICROS: u64 = DAYS * 86_400_000_000;
+
+/// Leaves of one kind, all asked one question.
+pub struct Projections {
+    pub name: String,
+    pub question: Question,
+    pub leaves: Vec<Leaf>,
+}
+
+/// Values of one kind under one transform.
+pub struct Values {
+    pub name: String,
+    pub column: u8,
+    pub transform: u8,
+    pub width: u32,
+    pub contents: Vec<Vec<u8>>,
+}
+
+/// What is common to the leaves of a kind.
+#[derive(Clone, Copy)]
+struct Setting {
+    text: &'static str,
+    column: u8,
+    transform: u8,
+    width: u32,
+    content: fn(&mut Draw) -> Vec<u8>,
+}
+
+const INT: Setting = Setting {
+    text: "Int, Truncate 10",
+    column: column::INT,
+    transform: transform::TRUNCATE,
+    width: NUMBER_WIDTH,
+    content: Draw::int,
+};
+const LONG: Setting = Setting { text: "Long, Truncate 10", column: column::LONG, content: Draw::long, ..INT };
+const DATE_MONTH: Setting =
+    Setting { text: "Date, Month", column: column::DATE, transform: transform::MONTH, width: 0, content: Draw::date };
+const MOMENT_DAY: Setting = Setting {
+    text: "Timestamp, Day",
+    column: column::TIMESTAMP,
+    transform: transform::DAY,
+    width: 0,
+    content: Draw::moment,
+};
+const MOMENT_MONTH: Setting = Setting { text: "Timestamp, Month", transform: transform::MONTH, ..MOMENT_DAY };
+const MOMENT_HOUR: Setting = Setting { text: "Timestamp, Hour", transform: transform::HOUR, ..MOMENT_DAY };
+const STRING: Setting = Setting {
+    text: "String, Truncate 4",
+    column: column::STRING,
+    transform: transform::TRUNCATE,
+    width: STRING_WIDTH,
+    content: Draw::lot_code,
+};
+const SHORT_STRING: Setting = Setting { text: "String, Truncate 4, shorter", content: Draw::short_start, ..STRING };
+const INT_ITSELF: Setting = Setting { text: "Int, Identity", transform: transform::IDENTITY, width: 0, ..INT };
+const STRING_ITSELF: Setting = Setting { text: "String, Identity", transform: transform::IDENTITY, width: 0, ..STRING };
+
+/// The kinds of leaves, in the order of the table.
+pub fn projections() -> Vec<Projections> {
+    use Question::{Inclusive, Strict};
+    let mut kinds = vec![];
+    let mut put = |setting, operator, questions: &[Question]| {
+        kinds.extend(questions.iter().map(|question| projection(setting, operator, *question)));
+    };
+    put(MOMENT_DAY, ("IsNull", operator::IS_NULL), &[Inclusive, Strict]);
+    for setting in [INT, LONG, DATE_MONTH, MOMENT_DAY, MOMENT_MONTH, MOMENT_HOUR] {
+        put(setting, ("<", operator::LESS), &[Inclusive, Strict]);
+    }
+    put(STRING, ("StartsWith", operator::STARTS_WITH), &[Inclusive]);
+    put(SHORT_STRING, ("StartsWith", operator::STARTS_WITH), &[Inclusive, Strict]);
+    put(STRING, ("Eq", operator::EQ), &[Inclusive]);
+    put(STRING, ("NotEq", operator::NOT_EQ), &[Strict]);
+    for setting in [INT_ITSELF, STRING_ITSELF] {
+        put(setting, ("Eq", operator::EQ), &[Inclusive, Strict]);
+    }
+    for setting in [INT, MOMENT_DAY, STRING] {
+        put(setting, ("In, 64", operator::IN), &[Inclusive]);
+        put(setting, ("NotIn, 64", operator::NOT_IN), &[Strict]);
+    }
+    kinds
+}
+
+/// The kinds of values, in the order of the table.
+pub fn transforms() -> Vec<Values> {
+    [INT, MOMENT_DAY, MOMENT_MONTH, STRING].map(values).into()
+}
+
+fn projection(setting: Setting, (word, operator): (&str, u16), question: Question) -> Projections {
+    let (leaves, literals) = match operator {
+        operator::IN | operator::NOT_IN => (SETS, LITERALS),
+        operator::IS_NULL => (LEAVES, 0),
+        _ => (LEAVES, 1),
+    };
+    let mut draw = Draw::new();
+    let leaf = |_| Leaf {
+        operator,
+        column: setting.column,
+        transform: setting.transform,
+        width: setting.width,
+        literals: (0..literals).map(|_| (setting.content)(&mut draw)).collect(),
+    };
+    Projections { name: format!("{}: {word}", setting.text), question, leaves: (0..leaves).map(leaf).collect() }
+}
+
+fn values(setting: Setting) -> Values {
+    let mut draw = Draw::new();
+    Values {
+        name: setting.text.to_string(),
+        column: setting.column,
+        transform: setting.transform,
+        width: setting.width,
+        contents: (0..LEAVES).map(|_| (setting.content)(&mut draw)).collect(),
+    }
+}
+
+/// Contents drawn from a fixed seed, by a multiplier and an increment modulo 2⁶⁴.
+struct Draw(u64);
+
+impl Draw {
+    fn new() -> Draw {
+        Draw(1970)
+    }
+
+    fn below(&mut self, limit: u64) -> u64 {
+        self.0 = self.0.wrapping_mul(6_364_136_223_846_793_005).wrapping_add(1_442_695_040_888_963_407);
+        // by the upper bits; the lower ones of such a sequence repeat soon
+        ((u128::from(self.0) * u128::from(limit)) >> u64::BITS) as u64
+    }
+
+    fn int(&mut self) -> Vec<u8> {
+        (self.below(1 << 31) as i32 - (1 << 30)).to_le_bytes().to_vec()
+    }
+
+    fn long(&mut self) -> Vec<u8> {
+        (self.below(1 << 63) as i64 - (1 << 62)).to_le_bytes().to_vec()
+    }
+
+    fn date(&mut self) -> Vec<u8> {
+        (self.below(DAYS) as i32).to_le_bytes().to_vec()
+    }
+
+    fn moment(&mut self) -> Vec<u8> {
+        self.below(MICROS).to_le_bytes().to_vec()
+    }
+
+    fn lot_code(&mut self) -> Vec<u8> {
+        self.letters(LOT_CODE)
+    }
+
+    fn short_start(&mut self) -> Vec<u8> {
+        self.letters(SHORT_START)
+    }
+
+    fn letters(&mut self, length: usize) -> Vec<u8> {
+        (0..length).map(|_| b'A' + self.below(26) as u8).collect()
+    }
+}

@@ -1,0 +1,69 @@
+//! The port's C entry points (crates/weighpick_c), called with slices. Each hands back document 01's number and, where
+//! there is one, the count of bytes written.
+
+use crate::leaf::Question;
+
+unsafe extern "C" {
+    fn weighpick_project(sheet: *const u8, sheet_len: usize, out: *mut u8, out_len: usize, count: *mut u64) -> u32;
+    fn weighpick_strict_project(
+        sheet: *const u8,
+        sheet_len: usize,
+        out: *mut u8,
+        out_len: usize,
+        count: *mut u64,
+    ) -> u32;
+    fn weighpick_transform(
+        column_type: u8,
+        transform: u8,
+        width: u32,
+        value: *const u8,
+        value_len: usize,
+        out: *mut u8,
+        out_len: usize,
+        count: *mut u64,
+    ) -> u32;
+    fn weighpick_holds(sheet: *const u8, sheet_len: usize, value: *const u8, value_len: usize) -> u32;
+}
+
+/// What the count holds before a call, so that a count that was not set shows.
+const UNSET: u64 = u64::MAX;
+
+/// One projection of a sheet into `out`: number and count.
+#[inline]
+pub fn project(question: Question, sheet: &[u8], out: &mut [u8]) -> (u32, u64) {
+    let routine = match question {
+        Question::Inclusive => weighpick_project,
+        Question::Strict => weighpick_strict_project,
+    };
+    let mut count = UNSET;
+    // SAFETY: pointers and lengths are those of live slices; `out` and `count` are lent to this call alone.
+    let number = unsafe { routine(sheet.as_ptr(), sheet.len(), out.as_mut_ptr(), out.len(), &mut count) };
+    (number, count)
+}
+
+/// The transform of one value record into `out`: number and count.
+#[inline]
+pub fn transform(column: u8, transform: u8, width: u32, value: &[u8], out: &mut [u8]) -> (u32, u64) {
+    let mut count = UNSET;
+    // SAFETY: as in `project`.
+    let number = unsafe {
+        weighpick_transform(
+            column,
+            transform,
+            width,
+            value.as_ptr(),
+            value.len(),
+            out.as_mut_ptr(),
+            out.len(),
+            &mut count,
+        )
+    };
+    (number, count)
+}
+
+/// The holds-test of a sheet and a value record: the number.
+#[inline]
+pub fn holds(sheet: &[u8], value: &[u8]) -> u32 {
+    // SAFETY: pointers and lengths are those of live slices, which the routine only reads.
+    unsafe { weighpick_holds(sheet.as_ptr(), sheet.len(), value.as_ptr(), value.len()) }
+}

@@ -1,0 +1,115 @@
+//! Leaves and values as the bytes of document 01: sheets of 64-byte records, chained by a next index. The comparison's
+//! own reading and writing; it shares nothing with the port.
+
+use crate::leaf::{ANSWER_LITERALS, CONTENT, Leaf, RECORD, Value, column, transform};
+
+/// The length that marks a missing value.
+const MISSING: u16 = 65535;
+/// Where the fields stand in a head (record 0) and in a literal record.
+const NEXT: usize = 0;
+const OPERATOR: usize = 2;
+const COLUMN: usize = 4;
+const TRANSFORM: usize = 5;
+const WIDTH: usize = 8;
+const LENGTH: usize = 2;
+const START: usize = 4;
+
+/// The sheet of a leaf, its literals in records 1, 2, .. as they come.
+pub fn sheet_of(leaf: &Leaf) -> Vec<u8> {
+    let order: Vec<usize> = (1..=leaf.literals.len()).collect();
+    sheet_chained(leaf, &order)
+}
+
+/// The sheet of a leaf with literal `i` in record `order[i]`: the chain is 0, `order[0]`, `order[1]`, .., 0. Records
+/// that `order` skips are off the chain and zero. An order that does not ascend makes a malformed sheet.
+pub fn sheet_chained(leaf: &Leaf, order: &[usize]) -> Vec<u8> {
+    assert_eq!(order.len(), leaf.literals.len(), "one record for each literal");
+    let records = 1 + order.iter().copied().max().unwrap_or(0);
+    let mut sheet = vec![0; records * RECORD];
+    put_u16(&mut sheet, OPERATOR, leaf.operator);
+    sheet[COLUMN] = leaf.column;
+    sheet[TRANSFORM] = leaf.transform;
+    sheet[WIDTH..WIDTH + 4].copy_from_slice(&leaf.width.to_le_bytes());
+    let mut last = 0;
+    for (literal, &record) in leaf.literals.iter().zip(order) {
+        put_u16(&mut sheet, last * RECORD + NEXT, record as u16);
+        put_content(&mut sheet[record * RECORD..][..RECORD], literal);
+        last = record;
+    }
+    sheet
+}
+
+/// The record of one value.
+pub fn value_record(value: &Value) -> [u8; RECORD] {
+    let mut record = [0; RECORD];
+    match value {
+        Value::Missing => put_u16(&mut record, LENGTH, MISSING),
+        Value::Present(content) => put_content(&mut record, content),
+    }
+    record
+}
+
+/// Operator and literals of an answer sheet; none unless it is what document 01 says an answer sheet is: transform 0,
+/// width 0, its literals in records 1, 2, .. in the order of the chain, every other byte zero.
+pub fn predicate_of(sheet: &[u8]) -> Option<(u16, Vec<Vec<u8>>)> {
+    let (records, rest) = sheet.as_chunks::<RECORD>();
+    let (head, literals) = records.split_first()?;
+    if !rest.is_empty() || literals.len() > ANSWER_LITERALS || !is_answer_head(head) {
+        return None;
+    }
+    for (number, record) in records.iter().enumerate() {
+        let next = if number == literals.len() { 0 } else { number + 1 };
+        if usize::from(u16_at(record, NEXT)) != next {
+            return None;
+        }
+    }
+    let contents: Option<Vec<Vec<u8>>> = literals.iter().map(content_of).collect();
+    Some((u16_at(head, OPERATOR), contents?))
+}
+
+/// The column type of an answer sheet: the result type.
+pub fn column_of(sheet: &[u8]) -> Option<u8> {
+    sheet.get(COLUMN).copied()
+}
+
+/// The value of a record; none unless it is one record with next 0 and zero bytes after the content.
+pub fn value_of(record: &[u8]) -> Option<Value> {
+    let record: &[u8; RECORD] = record.try_into().ok()?;
+    if u16_at(record, NEXT) != 0 {
+        return None;
+    }
+    if u16_at(record, LENGTH) == MISSING {
+        return is_zero(&record[START..]).then_some(Value::Missing);
+    }
+    content_of(record).map(Value::Present)
+}
+
+fn is_answer_head(head: &[u8; RECORD]) -> bool {
+    column::ALL.contains(&head[COLUMN]) && head[TRANSFORM] == transform::IDENTITY && is_zero(&head[TRANSFORM + 1..])
+}
+
+/// A literal record's content, if its length is one that a record can hold and zero bytes follow.
+fn content_of(record: &[u8; RECORD]) -> Option<Vec<u8>> {
+    let length = usize::from(u16_at(record, LENGTH));
+    let (content, after) = record[START..].split_at_checked(length)?;
+    is_zero(after).then(|| content.to_vec())
+}
+
+/// Puts a content and its length. A content too long for a record is cut, its length kept: a malformed record.
+fn put_content(record: &mut [u8], content: &[u8]) {
+    let kept = content.len().min(CONTENT);
+    put_u16(record, LENGTH, content.len() as u16);
+    record[START..START + kept].copy_from_slice(&content[..kept]);
+}
+
+fn put_u16(bytes: &mut [u8], at: usize, number: u16) {
+    bytes[at..at + 2].copy_from_slice(&number.to_le_bytes());
+}
+
+fn u16_at(bytes: &[u8; RECORD], at: usize) -> u16 {
+    u16::from_le_bytes([bytes[at], bytes[at + 1]])
+}
+
+fn is_zero(bytes: &[u8]) -> bool {
+    bytes.iter().all(|byte| *byte == 0)
+}
