@@ -1,4 +1,4 @@
-// Runs the cases on standard input (tools/make-cases) through the four routines, and prints, for each group and answer expected, how many came out right and wrong.
+// Runs the cases on standard input (tools/make-cases) through the four routines, and prints how many of each group and answer came out right and wrong.
 mod judge;
 
 use judge::Question;
@@ -10,50 +10,23 @@ ghost use Rattle.io.specs.Counts.{Counts};
 // More cases than there are, so that the run ends whatever it is given.
 const MOST_CASES: u32 = 100000;
 
-// A case that was run: its group, the number that document 01 gives, and whether the routine answered so; or the end of the input.
+// The number in a header of what is no case but a text to print, before the counts of the cases since the last one.
+const TEXT: u8 = 4;
+
+// What was read: a case, and whether the routine answered as document 01 says; a text, which was printed; or the end of the input.
 enum Ran {
-    Case(u8, u8, bool),
+    Case(bool),
+    Text,
     End,
 }
 
-// The cases so far of one group and one expected answer.
+// The cases since the last text.
 struct Tally {
-    group: u8,
-    expected: u8,
     right: u64,
     wrong: u64,
 }
 
-fn print_group(group: u8) -> bool {
-    match group {
-        1 => io::write_all(1, b"every operator and type"),
-        2 => io::write_all(1, b"one byte damaged"),
-        3 => io::write_all(1, b"sizes"),
-        4 => io::write_all(1, b"chains"),
-        5 => io::write_all(1, b"UTF-8"),
-        6 => io::write_all(1, b"lengths and marks"),
-        7 => io::write_all(1, b"head fields"),
-        8 => io::write_all(1, b"every byte"),
-        9 => io::write_all(1, b"moments and lots"),
-        10 => io::write_all(1, b"the specification's published values"),
-        11 => io::write_all(1, b"every operator, type and transform"),
-        12 => io::write_all(1, b"sets"),
-        13 => io::write_all(1, b"transforms"),
-        14 => io::write_all(1, b"buffers"),
-        15 => io::write_all(1, b"refusals in order"),
-        _ => io::write_all(1, b"no group"),
-    }
-}
-
-// Prints a group's counts; before the first case there is no group.
 fn print_counts(counts: Tally) {
-    if counts.group == 0 {
-        return;
-    }
-    print_group(counts.group);
-    io::write_all(1, b", answer ");
-    io::print_decimal(1, counts.expected as u64);
-    io::write_all(1, b": ");
     io::print_decimal(1, counts.right);
     io::write_all(1, b" right, ");
     io::print_decimal(1, counts.wrong);
@@ -70,13 +43,12 @@ fn read_part(n: usize, buf: &mut [u8]) -> usize
     io::read_full(0, &mut buf[..n])
 }
 
-// Reads a case, its header and its two parts (tools/make-cases says which bytes), and runs it.
+// Reads a case, its header and its two parts (tools/make-cases says which bytes), and runs it; or prints a text.
 fn run() -> Ran {
     let mut header = [0; 16];
     if io::read_full(0, &mut header) != 16 {
         return Ran::End;
     }
-    let group = header[0];
     let routine = header[1];
     let expected = header[2];
     let column_type = header[3];
@@ -87,6 +59,10 @@ fn run() -> Ran {
     let mut second = io::large_buffer();
     let n = read_part(u16_at(&header, 10) as usize, &mut first);
     let m = read_part(u16_at(&header, 12) as usize, &mut second);
+    if routine == TEXT {
+        io::write_all(1, &first[..n]);
+        return Ran::Text;
+    }
     let question = Question {
         routine,
         expected,
@@ -95,49 +71,35 @@ fn run() -> Ran {
         width,
         lent,
     };
-    let right = is_right(question, &first[..n], &second[..m]);
-    Ran::Case(group, expected, right)
+    Ran::Case(is_right(question, &first[..n], &second[..m]))
 }
 
-// The counts with one more case; those of another group or answer are printed first.
-fn count(counts: Tally, group: u8, expected: u8, as_expected: bool) -> Tally {
-    let mut right = 0;
-    let mut wrong = 0;
-    if counts.group == group && counts.expected == expected {
-        right = counts.right;
-        wrong = counts.wrong;
-    } else {
-        print_counts(counts);
-    }
+// The counts with one more case.
+fn count(counts: Tally, as_expected: bool) -> Tally {
+    let mut right = counts.right;
+    let mut wrong = counts.wrong;
     if as_expected {
         right = std::num::wrapping_add_u64(right, 1);
     } else {
         wrong = std::num::wrapping_add_u64(wrong, 1);
     }
-    Tally {
-        group,
-        expected,
-        right,
-        wrong,
-    }
+    Tally { right, wrong }
 }
 
 fn main() {
-    let mut counts = Tally {
-        group: 0,
-        expected: 0,
-        right: 0,
-        wrong: 0,
-    };
+    let mut counts = Tally { right: 0, wrong: 0 };
     let mut left = MOST_CASES;
     while left != 0 {
         left -= 1;
         match run() {
-            Ran::Case(group, expected, right) => {
-                counts = count(counts, group, expected, right);
+            Ran::Case(right) => {
+                counts = count(counts, right);
+            }
+            Ran::Text => {
+                print_counts(counts);
+                counts = Tally { right: 0, wrong: 0 };
             }
             Ran::End => break,
         }
     }
-    print_counts(counts);
 }

@@ -25,4 +25,8 @@ main-spec =
     (search needs)
     (search needs)
     (search needs)
+    (search needs)
+    (search needs)
+    (search needs)
+    (search needs)
     (search needs))
