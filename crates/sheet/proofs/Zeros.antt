@@ -1,40 +1,54 @@
--- The loop over a run of zeros: what is left of the run answers for the whole. Assumes nothing.
+-- Runs of zeros that are tested part by part: the first part decides, or what is left answers for the whole. Assumes nothing.
 use Prim.Native.Nat.{ℕ, _+_, _-_, _≤_}
+use native.Mathlib.Nat.{add-zero, add-assoc, sub-zero}
 use native.Mathlib.Omega.{arith}
 use mathlib.Core.Bool.{Bool, true, false, _&&_}
 use mathlib.Core.List.{List}
-use mathlib.Core.Path.{_≡_, sym, ap, _∙_}
+use mathlib.Core.Path.{_≡_, refl, sym, ap, _∙_}
+use lib.Dec.{eqb}
 use lib.ListN.{getD}
 use borrow.Author.Tests.{eq-eqb, ne-eqb}
 use Rattle.values.specs.WordLaws.{word-one}
 use Rattle.values.specs.Words.{word, zeroAt}
 use Rattle.sheet.specs.PartLaws.{zero-split}
 
-module _ (s : List ℕ) (i left : ℕ) (answer : Bool) (same : zeroAt i left s ≡ answer) where
-  -- n bytes that are the number b, of those left
-  module _ (n b : ℕ) (are : b ≡ word i n s) (some : n ≤ left) where
-    split : zeroAt i left s ≡ (zeroAt i n s && zeroAt (i + n) (left - n) s)
-    split = let e : n + (left - n) ≡ left = omega arith in ap (λ (k : ℕ). zeroAt i k s) (sym e) ∙ zero-split i n (left - n) s
+-- i bytes of a run are zero, so the others answer for it
+pub record Run (s : List ℕ) (at n i : ℕ) : Type 0 where
+  pub within : i ≤ n
+  pub same : zeroAt (at + i) (n - i) s ≡ zeroAt at n s
 
-    found : (b ≡ 0 → ⊥) → false ≡ answer
-    found h = sym (sym same ∙ split ∙ rw (ne-eqb (word i n s) 0 (λ e. h (are ∙ e))))
+pub none : (s : List ℕ) (at n : ℕ) → Run s at n 0
+none s at n = record { within = omega arith; same = rw (add-zero, sub-zero) refl }
 
-    none : b ≡ 0 → zeroAt (i + n) (left - n) s ≡ answer
-    none h = sym (rw (eq-eqb (word i n s) 0 (sym are ∙ h)) at split) ∙ same
+-- the first m bytes, and the test of them
+module _ (s : List ℕ) (at n m : ℕ) {t : Bool} (is : t ≡ zeroAt at m s) (some : m ≤ n) where
+  split : zeroAt at n s ≡ (t && zeroAt (at + m) (n - m) s)
+  split = let e : m + (n - m) ≡ n = omega arith in ap (λ (k : ℕ). zeroAt at k s) (sym e) ∙ rw is (zero-split at m (n - m) s)
 
-  pub word-found : (b : ℕ) → b ≡ word i 8 s → 8 ≤ left → (b ≡ 0 → ⊥) → false ≡ answer
-  word-found b = found 8 b
+  pub broken : t ≡ false → false ≡ zeroAt at n s
+  broken h = sym (rw h at split)
 
-  pub word-none : (b : ℕ) → b ≡ word i 8 s → 8 ≤ left → b ≡ 0 → zeroAt (i + 8) (left - 8) s ≡ answer
-  word-none b = none 8 b
+  pub begun : t ≡ true → Run s at n m
+  begun h = record { within = some; same = sym (rw h at split) }
 
-  pub byte-found : (left ≡ 0 → ⊥) → (getD s i 0 ≡ 0 → ⊥) → false ≡ answer
-  byte-found more = found 1 (getD s i 0) (sym (word-one i s)) (omega arith)
+-- the next m bytes, and the number that they are
+module _ {s : List ℕ} {at n i : ℕ} (run : Run s at n i) (m : ℕ) {b : ℕ} (is : b ≡ word (at + i) m s) (some : i + m ≤ n) where
+  tested : eqb b 0 ≡ zeroAt (at + i) m s
+  tested = ap (λ (x : ℕ). eqb x 0) is
 
-  pub byte-none : (left ≡ 0 → ⊥) → getD s i 0 ≡ 0 → zeroAt (i + 1) (left - 1) s ≡ answer
-  byte-none more = none 1 (getD s i 0) (sym (word-one i s)) (omega arith)
+  pub ends : (b ≡ 0 → ⊥) → false ≡ zeroAt at n s
+  ends h = broken s (at + i) (n - i) m tested (omega arith) (ne-eqb b 0 h) ∙ run .same
 
-  pub run-ended : left ≡ 0 → true ≡ answer
-  run-ended h = sym (ap (λ (k : ℕ). zeroAt i k s) h) ∙ same
+  pub goes-on : b ≡ 0 → Run s at n (i + m)
+  goes-on h =
+      let left : n - (i + m) ≡ n - i - m = omega arith in
+      record { within = some; same = rw (left, ← add-assoc at i m) (begun s (at + i) (n - i) m tested (omega arith) (eq-eqb b 0 h) .same ∙ run .same) }
 
-pub ruleset runs = (word-found, word-none, byte-found, byte-none, run-ended)
+pub ended : {s : List ℕ} {at n i : ℕ} → Run s at n i → n ≤ i → true ≡ zeroAt at n s
+ended {s} {at} {n} {i} run h = let none : n - i ≡ 0 = omega arith in rw none at (run .same)
+
+-- one byte is left
+pub last : {s : List ℕ} {at n i : ℕ} → Run s at n i → i + 1 ≡ n → eqb (getD s (at + i) 0) 0 ≡ zeroAt at n s
+last {s} {at} {n} {i} run h =
+    let one : 1 ≡ n - i = omega arith in
+    ap (λ (x : ℕ). eqb x 0) (sym (word-one (at + i) s)) ∙ rw one (run .same)

@@ -1,8 +1,10 @@
 // Records: their sizes, runs of zero bytes, and the lengths that a type allows.
 use values::datatypes::PrimitiveType;
+use values::words::u16_at;
+use values::words::u32_at;
 use values::words::u64_at;
 ghost use mathlib.Core.Path.{_≡_};
-ghost use Prim.Native.Nat.{_+_, _≤_};
+ghost use Prim.Native.Nat.{_+_, _≤_, _<_};
 ghost use lib.ListN.{length};
 ghost use Rattle.values.specs.Types.{layout, fits};
 ghost use Rattle.values.specs.Words.{zeroAt};
@@ -17,27 +19,46 @@ pub const CONTENT_SIZE: usize = 60;
 // The length that marks a value as missing.
 pub const MISSING_MARK: u16 = 65535;
 
-// Whether the n bytes from `at` on are zero: eight at a time, then one by one.
+// Fewer than eight bytes: four, then two, then one, with no loop.
+fn few_zeros(s: &[u8], at: usize, n: usize) -> bool
+    requires { ⌜ at + n ≤ length (now s) ⌝ }
+    requires { ⌜ n < 8 ⌝ }
+    ensures { λ r. ⌜ r ≡ zeroAt at n (now (s .entry)) ⌝ }
+{
+    let mut i = 0;
+    if n >= 4 {
+        if u32_at(s, at + i) != 0 {
+            return false;
+        }
+        i += 4;
+    }
+    if n % 4 >= 2 {
+        if u16_at(s, at + i) != 0 {
+            return false;
+        }
+        i += 2;
+    }
+    if i < n {
+        return s[at + i] == 0;
+    }
+    true
+}
+
+// Whether the n bytes from `at` on are zero: first those over a multiple of eight, so that the loop has one step.
 pub fn zeros(s: &[u8], at: usize, n: usize) -> bool
     requires { ⌜ at + n ≤ length (now s) ⌝ }
     ensures { λ r. ⌜ r ≡ zeroAt at n (now (s .entry)) ⌝ }
 {
-    let mut i = at;
-    let mut left = n;
-    while left != 0 {
-        if 8 <= left {
-            if u64_at(s, i) != 0 {
-                return false;
-            }
-            i += 8;
-            left -= 8;
-        } else {
-            if s[i] != 0 {
-                return false;
-            }
-            i += 1;
-            left -= 1;
+    let few = n % 8;
+    if !few_zeros(s, at, few) {
+        return false;
+    }
+    let mut i = few;
+    while i < n {
+        if u64_at(s, at + i) != 0 {
+            return false;
         }
+        i += 8;
     }
     true
 }

@@ -8,6 +8,7 @@ use sheet::sheet::HOLDS_LIMIT;
 use sheet::sheet::SheetResult;
 use sheet::sheet::read_sheet;
 use values::datatypes::PrimitiveType;
+use write::write::put_bytes;
 ghost use mathlib.Core.List.{_∷_};
 ghost use mathlib.Core.Path.{_≡_};
 ghost use Prim.Native.Nat.{_+_, _≤_};
@@ -87,21 +88,6 @@ pub fn put_predicate(d: &mut [u8], at: usize, answer: &[u8]) -> usize
     }
 }
 
-fn put_bytes(d: &mut [u8], at: usize, bs: &[u8]) -> usize
-    requires { ⌜ at + length (now bs) ≤ length (now d) ⌝ }
-    ensures { λ _. ⌜ now (d .exit) ≡ over at (now (bs .entry)) (now (d .entry)) ⌝ }
-    ensures { λ r. ⌜ r ≡ at + length (now (bs .entry)) ⌝ }
-{
-    let mut end = at;
-    let mut i = 0;
-    while i < bs.len() {
-        d[end] = bs[i];
-        end += 1;
-        i += 1;
-    }
-    end
-}
-
 // What follows the number of an answer: after 0 the predicate of the answer sheet, after another number nothing.
 fn put_answer(d: &mut [u8], at: usize, number: u32, answer: &[u8]) -> usize
     requires { ⌜ at + length (spaced (afterZero number (answerWords (now answer)))) ≤ length (now d) ⌝ }
@@ -123,8 +109,8 @@ pub fn put_line(d: &mut [u8], question: &[u8], number: u32, answer: &[u8]) -> us
     ensures ends { λ r. ⌜ r ≡ length (answerLine (now (question .entry)) number (now (answer .entry))) ⌝ }
     ensures inside { λ r. ⌜ r ≤ length (now (d .exit)) ⌝ }
 {
-    let named = put_bytes(d, 0, question);
-    let numbered = put_word(d, named, number as u64);
+    put_bytes(d, 0, question);
+    let numbered = put_word(d, question.len(), number as u64);
     let end = put_answer(d, numbered, number, answer);
     d[end] = b'\n';
     end + 1

@@ -3,12 +3,13 @@ use Prim.Native.Nat.{ℕ, suc, _+_, _≤_, _<_}
 use native.Mathlib.Numerals.{add-one}
 use mathlib.Core.Bool.{true, false, cond, _&&_}
 use mathlib.Core.List.{List}
-use mathlib.Core.Path.{_≡_}
+use mathlib.Core.Path.{_≡_, sym, ap₂, _∙_}
 use lib.Dec.{ltb, eqb}
-use lib.ListN.{length, drop, getD, drop-of-length-le}
+use lib.ListN.{length, take, drop, getD, drop-of-length-le, take-append-drop}
 use lib.Seq.{drop-cons}
 use borrow.Author.Tests.{lt-ltb, le-ltb, eq-eqb, ne-eqb}
 use Rattle.values.specs.Order.{compareBytes, startsWith}
+use Rattle.values.specs.OrderLaws.{common-beginning}
 use Rattle.values.specs.declared.order.Ordering.the-variants.{Less, Equal, Greater}
 
 -- both go on
@@ -22,6 +23,10 @@ module _ (a b : List ℕ) (i : ℕ) (h : i < length a) (k : i < length b) where
   starts : startsWith (drop i a) (drop i b) ≡ (eqb (getD a i 0) (getD b i 0) && startsWith (drop (suc i) a) (drop (suc i) b))
   unfolding startsWith
   starts = rw (drop-cons a i 0 h, drop-cons b i 0 k)
+
+pub same-start : (a b : List ℕ) (i : ℕ) → take i a ≡ take i b → compareBytes (drop i a) (drop i b) ≡ compareBytes a b
+same-start a b i e =
+    sym (common-beginning (take i a) (drop i a) (drop i b)) ∙ ap₂ compareBytes (take-append-drop i a) (rw e (take-append-drop i b))
 
 module _ (a b : List ℕ) (i : ℕ) (e : compareBytes (drop i a) (drop i b) ≡ compareBytes a b) where
   pub both-end : length a ≤ i → length b ≤ i → Equal ≡ compareBytes a b

@@ -14,6 +14,7 @@ pub mod IntLaws
 pub mod RangeLaws
 pub mod TypesLaws
 pub mod WordLaws
+pub mod FieldLaws
 pub mod CodePointLaws
 pub mod Utf8Laws
 pub mod Utf8StepLaws

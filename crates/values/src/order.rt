@@ -1,5 +1,8 @@
 // The order of byte strings, and how one begins.
+use crate::words::u64_at;
 ghost use mathlib.Core.Path.{_≡_};
+ghost use Prim.Native.Nat.{_≤_};
+ghost use lib.ListN.{length, take};
 ghost use Rattle.values.specs.Order.{compareBytes, startsWith};
 
 // The Rust's std::cmp::Ordering.
@@ -9,11 +12,31 @@ pub enum Ordering {
     Greater,
 }
 
-// By byte; a shorter beginning of the other is the lower.
+// How many bytes from the start on are the same on both sides, counted in eights.
+fn same_words(a: &[u8], b: &[u8]) -> usize
+    ensures { λ r. ⌜ r ≤ length (now (a .entry)) ⌝ }
+    ensures { λ r. ⌜ r ≤ length (now (b .entry)) ⌝ }
+    ensures { λ r. ⌜ take r (now (a .entry)) ≡ take r (now (b .entry)) ⌝ }
+{
+    let mut n = a.len();
+    if b.len() < n {
+        n = b.len();
+    }
+    let mut i = 0;
+    while n - i >= 8 {
+        if u64_at(a, i) != u64_at(b, i) {
+            return i;
+        }
+        i += 8;
+    }
+    i
+}
+
+// By byte, after the words that are the same; a shorter beginning of the other is the lower.
 pub fn compare_bytes(a: &[u8], b: &[u8]) -> Ordering
     ensures { λ r. ⌜ r ≡ compareBytes (now (a .entry)) (now (b .entry)) ⌝ }
 {
-    let mut i: usize = 0;
+    let mut i = same_words(a, b);
     while i < a.len() {
         if i >= b.len() {
             return Ordering::Greater;

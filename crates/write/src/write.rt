@@ -10,11 +10,14 @@ use values::words::put_i64;
 use values::words::put_u16;
 use values::words::put_u32;
 use values::words::put_u64;
+use values::words::u16_at;
+use values::words::u32_at;
+use values::words::u64_at;
 ghost use mathlib.Core.Bool.{true};
 ghost use mathlib.Core.List.{_++_};
 ghost use mathlib.Core.Path.{_≡_};
 ghost use Prim.Native.Nat.{_+_, _*_, _≤_, _<_};
-ghost use lib.ListN.{length, replicate};
+ghost use lib.ListN.{length, drop, replicate};
 ghost use Rattle.values.specs.Outcomes.{missing};
 ghost use Rattle.values.specs.Types.{contentSize, layout, typeNumber, inType};
 ghost use Rattle.values.specs.Words.{over, leBytes, signedBytes};
@@ -61,15 +64,38 @@ pub fn put_zeros(d: &mut [u8], at: usize, n: usize)
     put_few_zeros(d, at + i + 4, left - 4);
 }
 
+// Those from index `from` on, fewer than eight: four, then two, then one. A loop here would be compiled into a copy of any length.
+fn put_few_bytes(d: &mut [u8], at: usize, bs: &[u8], from: usize)
+    requires { ⌜ at + length (now bs) ≤ length (now d) ⌝ }
+    requires { ⌜ from ≤ length (now bs) ⌝ }
+    requires { ⌜ length (now bs) < from + 8 ⌝ }
+    ensures { λ _. ⌜ now (d .exit) ≡ over (at + from) (drop from (now (bs .entry))) (now (d .entry)) ⌝ }
+{
+    let mut i = from;
+    if bs.len() - i >= 4 {
+        put_u32(d, at + i, u32_at(bs, i));
+        i += 4;
+    }
+    if bs.len() - i >= 2 {
+        put_u16(d, at + i, u16_at(bs, i));
+        i += 2;
+    }
+    if i < bs.len() {
+        d[at + i] = bs[i];
+    }
+}
+
+// Eight at a time while eight are left, then the few that are left.
 pub fn put_bytes(d: &mut [u8], at: usize, bs: &[u8])
     requires { ⌜ at + length (now bs) ≤ length (now d) ⌝ }
     ensures { λ _. ⌜ now (d .exit) ≡ over at (now (bs .entry)) (now (d .entry)) ⌝ }
 {
     let mut i = 0;
-    while i < bs.len() {
-        d[at + i] = bs[i];
-        i += 1;
+    while bs.len() - i >= 8 {
+        put_u64(d, at + i, u64_at(bs, i));
+        i += 8;
     }
+    put_few_bytes(d, at, bs, i);
 }
 
 // What stands before a record's content: its next and its length.

@@ -1,37 +1,41 @@
--- `records::zeros` meets its contract. The loop's invariant: the bytes that are left answer for the whole run. The measure is how many are left.
--- Assumes nothing.
-use Prim.Native.Nat.{_+_}
+-- `records::zeros` meets its contract. The loop's invariant: the bytes that are left, a multiple of eight, answer for the whole run.
+-- The measure is how many are left. Assumes nothing.
+use Prim.Native.Nat.{_-_, _%_}
 use native.Mathlib.Omega.{arith}
 use mathlib.Core.Path.{_≡_}
-use Rattle.values.specs.Words.{zeroAt}
-use Rattle.sheet.proofs.Zeros.{word-none, runs}
+use denote.Ref.{now}
 use borrow.Author.Needs.{needs}
+use borrow.Author.Tests.{not-true, not-false}
+use Rattle.sheet.proofs.Zeros.{Run, broken, begun, ends, goes-on, ended}
 use Rattle.sheet.proofs.records.zeros.Statement.{statement}
 use Rattle.sheet.proofs.records.zeros.Tie as tie
 
 abbrev Inv-loop : tie.InvT-loop
-Inv-loop s at n i₀ left₀ i left = (zeroAt i left s ≡ zeroAt at n s) × (i + left ≡ at + n)
+Inv-loop s at n few i₀ i = Run s at n i × ((n - i) % 8 ≡ 0)
 
 abbrev μ-loop : tie.MeasureT-loop
-μ-loop s at n i₀ left₀ i left = left
+μ-loop s at n few i₀ i = n - i
 
 returns : tie.Need-returns Inv-loop μ-loop
-returns c = search runs
+returns c =
+    let f = c .before .few-zeros in
+    let a = c .before .before .before .args in
+    broken (now (a .s)) (a .at) (a .n) (a .n % 8) (f .ensures) (omega arith) (not-true (f .result) (c .if1 .taken))
 
-loop-again : tie.Need-loop-again Inv-loop μ-loop
-loop-again c =
-    let u = c .before .u64-at in
-    let turn = c .before .before .before .before .loop in
-    (word-none _ (turn .i) (turn .left) _ (turn .inv .0) (u .result) (u .ensures) (c .before .before .if1 .taken) (c .if2 .left), omega arith)
+loop-holds : tie.Need-loop-holds Inv-loop μ-loop
+loop-holds c =
+    let f = c .before .few-zeros in
+    let a = c .before .before .before .args in
+    (begun (now (a .s)) (a .at) (a .n) (a .n % 8) (f .ensures) (omega arith) (not-false (f .result) (c .if1 .left)), omega arith)
 
 returns-2 : tie.Need-returns-2 Inv-loop μ-loop
-returns-2 c = search runs
+returns-2 c = ends (c .before .before .before .loop .inv .0) 8 (c .before .u64-at .ensures) (omega arith) (c .if2 .taken)
 
-loop-again-2 : tie.Need-loop-again-2 Inv-loop μ-loop
-loop-again-2 c = (search runs, omega arith)
+loop-again : tie.Need-loop-again Inv-loop μ-loop
+loop-again c = (goes-on (c .before .before .before .loop .inv .0) 8 (c .before .u64-at .ensures) (omega arith) (c .if2 .left), omega arith)
 
 returns-3 : tie.Need-returns-3 Inv-loop μ-loop
-returns-3 c = search runs
+returns-3 c = ended (c .before .loop .inv .0) (c .loop-test .left)
 
 pub zeros-spec : {M : Type 1} → statement M
 zeros-spec =
@@ -40,15 +44,12 @@ zeros-spec =
     Inv-loop
     μ-loop
     (search needs)
-    (search needs)
     returns
+    loop-holds
     (search needs)
-    (search needs)
-    loop-again
     (search needs)
     returns-2
     (search needs)
     (search needs)
-    (search needs)
-    loop-again-2
+    loop-again
     returns-3)

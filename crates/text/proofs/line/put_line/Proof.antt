@@ -3,10 +3,11 @@ use Prim.Native.Nat.{ℕ, _+_, _^_, _≤_, _<_}
 use native.Mathlib.Nat.{zero-add}
 use native.Mathlib.Omega.{arith}
 use mathlib.Core.List.{List, _∷_, _++_}
-use mathlib.Core.Path.{_≡_, _∙_}
+use mathlib.Core.Path.{_≡_, sym, _∙_}
 use lib.ListN.{length, set, length-set, length-append}
 use denote.Ref.{now}
 use borrow.Author.Needs.{needs}
+use Rattle.values.specs.Words.{over}
 use Rattle.text.specs.Text.{space, newline, digits, spaced, afterZero, answerWords, answerLine, questionSize, lineSize}
 use Rattle.text.specs.TextLaws.{line-fits}
 use Rattle.text.proofs.Writes.{Wrote, wrote, one, then, kept}
@@ -61,23 +62,27 @@ module _ {question : List ℕ} {code : ℕ} {answer d : List ℕ} (t : Asked que
 asked : (s : tie.Start) → let a = s .args in Asked (now (a .question)) (a .number) (now (a .answer)) (now (a .d))
 asked s = record { room = s .pre .0; short = s .pre .1; small = s .fits .number .fits }
 
+-- the question starts the buffer
+named : {question d e : List ℕ} → e ≡ over 0 question d → Wrote 0 question d e (length question)
+named {question} h = record { written = h; ended = sym (zero-add (length question)) }
+
 put-word-requires : tie.Need-put-word-requires
 put-word-requires c κs =
     let p = c .before .before .before in
-    number-room (asked (p .before .before .before .before .before)) (wrote (p .put-bytes .ensures))
+    number-room (asked (p .before .before .before .before .before)) (named (p .put-bytes .ensures))
 
 put-answer-requires : tie.Need-put-answer-requires
 put-answer-requires c κs =
     let q = c .before .before .before in
     let p = q .before .before .before .before in
-    answer-room (asked (p .before .before .before .before .before)) (wrote (p .put-bytes .ensures)) (wrote (q .put-word .ensures))
+    answer-room (asked (p .before .before .before .before .before)) (named (p .put-bytes .ensures)) (wrote (q .put-word .ensures))
 
 slice-write-d : tie.Need-slice-write-d
 slice-write-d c =
     let r = c .before .before in
     let q = r .before .before .before .before in
     let p = q .before .before .before .before in
-    end-room (asked (p .before .before .before .before .before)) (wrote (p .put-bytes .ensures)) (wrote (q .put-word .ensures)) (wrote (r .put-answer .ensures))
+    end-room (asked (p .before .before .before .before .before)) (named (p .put-bytes .ensures)) (wrote (q .put-word .ensures)) (wrote (r .put-answer .ensures))
 
 same-length : tie.Need-same-length
 same-length c =
@@ -92,8 +97,8 @@ returns c =
     let q = r .before .before .before .before in
     let p = q .before .before .before .before in
     let t = asked (p .before .before .before .before .before) in
-    let w = line-written t (wrote (p .put-bytes .ensures)) (wrote (q .put-word .ensures)) (wrote (r .put-answer .ensures)) in
-    let room = end-room t (wrote (p .put-bytes .ensures)) (wrote (q .put-word .ensures)) (wrote (r .put-answer .ensures)) in
+    let w = line-written t (named (p .put-bytes .ensures)) (wrote (q .put-word .ensures)) (wrote (r .put-answer .ensures)) in
+    let room = end-room t (named (p .put-bytes .ensures)) (wrote (q .put-word .ensures)) (wrote (r .put-answer .ensures)) in
     (w .written, (w .ended ∙ zero-add _, simp length-set (omega (arith, room))))
 
 pub put-line-spec : {M : Type 1} → statement M

@@ -4,7 +4,7 @@ use Prim.Native.Nat.{_≤_, _-_}
 use mathlib.Core.Path.{_≡_}
 use lib.ListN.{length, drop}
 use Rattle.values.specs.Order.{compareBytes}
-use Rattle.values.proofs.Rests.{both-end, left-ends, right-ends, lower-here, higher-here, same-here}
+use Rattle.values.proofs.Rests.{same-start, both-end, left-ends, right-ends, lower-here, higher-here, same-here}
 use borrow.Author.Needs.{needs}
 use Rattle.values.proofs.order.compare_bytes.Statement.{statement}
 use Rattle.values.proofs.order.compare_bytes.Tie as tie
@@ -22,6 +22,7 @@ compare-bytes-spec =
     Inv-loop
     μ-loop
     (search needs)
+    (λ c. search (needs, same-start))
     (λ c. search (needs, right-ends))
     (search needs)
     (search needs)
