@@ -3,6 +3,5 @@ pub mod Operators
 pub mod Predicates
 pub mod Holds
 pub mod Answers
-pub mod InsertLaws
 pub mod PredicateLaws
 pub mod HoldsLaws

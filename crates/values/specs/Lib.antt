@@ -20,4 +20,5 @@ pub mod Utf8Laws
 pub mod Utf8StepLaws
 pub mod OrderLaws
 pub mod AscendingLaws
+pub mod PlaceLaws
 pub mod OutcomeLaws
