@@ -6,7 +6,7 @@ use mathlib.Core.Path.{_≡_, refl, sym, ap, _∙_}
 use lib.IntN.{ℤ, pos, sucℤ, _+ℤ_, +ℤ-one}
 use mir.Syntax.{w64}
 use mir.Val.{SFits, toZ, ofZ}
-use Rattle.values.specs.IntLaws.{back}
+use Rattle.values.specs.SignedLaws.{back}
 use Rattle.values.specs.RangeLaws.{in-type-long}
 use Rattle.values.specs.Types.{layout, inType}
 use Rattle.values.specs.Words.{over}

@@ -19,14 +19,14 @@ use Rattle.expr.specs.declared.operator.PredicateOperator.{PredicateOperator}
 pub use Rattle.projection.specs.Answers.{takesOne}
 use Rattle.projection.specs.Lifting.{lifted}
 use Rattle.projection.specs.Projection.{byTransform, numberStep, bytesStep}
-use Rattle.projection.specs.Steps.{Projected, some, mapped}
+use Rattle.projection.specs.Steps.{Projected, mapped}
 use Rattle.numbers.specs.declared.steps.NumberProjection.{NumberProjection}
 use Rattle.numbers.specs.declared.steps.NumberProjection.the-variants as number-projection
 use Rattle.projection.specs.declared.question.Question.{Question}
 use Rattle.projection.specs.declared.question.Question.the-variants.{Inclusive, Strict}
 use Rattle.sheet.specs.ReadAnswers.{Placed, contentsAt, numbersAt, takes}
 use Rattle.sheet.specs.Records.{recordSize}
-use Rattle.sheet.specs.Sheets.{projectLimit, holdsLimit}
+use Rattle.sheet.specs.Sheets.{projectLimit}
 use Rattle.write.specs.Written.{answerSheet, numberBytes}
 use Rattle.sheet.specs.Values.{byLayout, mapLiterals}
 use Rattle.answers.specs.declared.leaf.Leaf.{Leaf}
@@ -121,10 +121,6 @@ isIdentity Day = false
 isIdentity Hour = false
 isIdentity Void = false
 isIdentity Unknown = false
-
--- 01: "result buffer under 8,256 bytes"
-abbrev pub sheetBuffer : ℕ
-sheetBuffer = recordSize * suc holdsLimit
 
 -- what a sheet that was read, and a buffer that is large enough, promise
 pub record Ready (column : PrimitiveType) (operator : PredicateOperator) (count : ℕ) (s numbers out : List ℕ) : Type 0 where

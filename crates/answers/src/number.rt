@@ -22,7 +22,8 @@ ghost use lib.ListN.{length};
 ghost use Rattle.expr.specs.Operators.{arity};
 ghost use Rattle.numbers.specs.Answers.{numberProjected};
 ghost use Rattle.answers.specs.Answers.{Settled};
-ghost use Rattle.answers.specs.Leaves.{numberSteps, numberLeafAt, oneWritten, NumbersIn, sheetBuffer, keeps, takesOne, takesMany, NumberColumn, ReadyLeaf, liftsFor};
+ghost use Rattle.answers.specs.Leaves.{numberSteps, numberLeafAt, oneWritten, NumbersIn, keeps, takesOne, takesMany, NumberColumn, ReadyLeaf, liftsFor};
+ghost use Rattle.write.specs.Written.{sheetBuffer};
 
 // The projection of the one literal, written.
 fn put_projection(to: PrimitiveType, p: NumberProjection, out: &mut [u8]) -> Answer

@@ -19,7 +19,8 @@ ghost use Rattle.values.specs.Types.{contentSize};
 ghost use Rattle.expr.specs.Operators.{arity};
 ghost use Rattle.strings.specs.Answers.{bytesProjected, NoLonger, OneLiteral};
 ghost use Rattle.answers.specs.Answers.{Settled};
-ghost use Rattle.answers.specs.Leaves.{byteSteps, bytesLeafAt, oneBytesWritten, sheetBuffer, keeps, takesOne, takesMany, BytesColumn, ReadyLeaf};
+ghost use Rattle.answers.specs.Leaves.{byteSteps, bytesLeafAt, oneBytesWritten, keeps, takesOne, takesMany, BytesColumn, ReadyLeaf};
+ghost use Rattle.write.specs.Written.{sheetBuffer};
 
 // The projection of the literal l, written.
 fn put_projection(to: PrimitiveType, p: BytesProjection, l: &[u8], out: &mut [u8]) -> Answer

@@ -19,7 +19,8 @@ use Rattle.sheet.specs.Sheets.{sheet, projectLimit}
 use Rattle.sheet.specs.declared.sheet.Sheet.{Sheet}
 use Rattle.answers.specs.Answers.{projectedLeaf, Settled}
 use Rattle.answers.specs.LeafLaws.{leaf-of}
-use Rattle.answers.specs.Leaves.{leafOf, sheetBuffer, Ready}
+use Rattle.answers.specs.Leaves.{leafOf, Ready}
+use Rattle.write.specs.Written.{sheetBuffer}
 use Rattle.answers.specs.SettledLaws.{settled-refused, settled-as}
 use Rattle.answers.specs.declared.answer.Answer.{Answer}
 use Rattle.answers.specs.declared.answer.Answer.the-variants.{Err}

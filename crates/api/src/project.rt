@@ -9,7 +9,7 @@ use sheet::sheet::SheetResult;
 use sheet::sheet::read_sheet;
 ghost use mathlib.Core.Path.{_≡_};
 ghost use Rattle.projection.specs.declared.question.Question.the-variants.{Inclusive, Strict};
-ghost use Rattle.answers.specs.Leaves.{sheetBuffer};
+ghost use Rattle.write.specs.Written.{sheetBuffer};
 ghost use Rattle.api.specs.Routines.{projectSheet, answered, leftIn};
 
 // The bytes of the longest answer sheet.

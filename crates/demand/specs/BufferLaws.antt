@@ -9,7 +9,7 @@ use borrow.Author.Tests.{le-ltb}
 use Rattle.projection.specs.declared.question.Question.{Question}
 use Rattle.api.specs.Demand3.{Returns}
 use Rattle.api.specs.Routines.{projectSheet, answered, leftIn}
-use Rattle.answers.specs.Leaves.{sheetBuffer}
+use Rattle.write.specs.Written.{sheetBuffer}
 use Rattle.answers.specs.declared.answer.Answer.the-variants.{Written}
 use Rattle.demand.specs.Demand3Laws.{by-kind, numbersLaw, bytesLaw}
 use Rattle.demand.specs.RowLaws.{answer-length}

@@ -7,7 +7,8 @@ use lib.Signed.{ltZ, leZ}
 use mir.Syntax.{w64}
 use mir.Val.{SFits, toZ, ofZ}
 use borrow.Author.Tests.{eqb-true, eq-eqb}
-use Rattle.values.specs.IntLaws.{back, le-true, le-false, ltZ-yes, ltZ-not, eq-taken}
+use Rattle.values.specs.SignedLaws.{back, eq-taken}
+use Rattle.values.specs.IntLaws.{le-true, le-false, ltZ-yes, ltZ-not}
 use Rattle.values.specs.Order.{compareNumbers, isLess, isEqual}
 use Rattle.values.specs.OrderLaws.{number-equal, is-equal}
 use Rattle.values.specs.TestLaws.{same-test}

@@ -13,7 +13,7 @@ use mir.Val.{SFits, toZ, ofZ}
 use types.Run.{OneOf, miss}
 use denote.Enum.Declared.{tagOf}
 use borrow.Author.Tests.{eqb-true}
-use Rattle.values.specs.IntLaws.{back}
+use Rattle.values.specs.SignedLaws.{back}
 use Rattle.values.specs.Types.{Layout, number, layout, fits}
 use Rattle.values.specs.Words.{leNumber, word, signed}
 use Rattle.values.specs.declared.datatypes.PrimitiveType.{PrimitiveType}

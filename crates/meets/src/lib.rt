@@ -1,3 +1,4 @@
 // Whether a row meets a leaf.
 pub mod held;
+pub mod literals;
 pub mod test;

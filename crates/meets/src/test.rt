@@ -1,137 +1,31 @@
 // Whether a row meets a leaf, by the records of a sheet.
 use crate::held::Held;
+use crate::literals::bytes_holds;
+use crate::literals::missing_holds;
+use crate::literals::number_holds;
 use expr::operator::PredicateOperator;
-use expr::test::bytes_meets;
-use expr::test::number_meets;
 use sheet::content::literals_utf8;
 use sheet::content::number_in;
 use sheet::content::value_utf8;
 use sheet::literal::content_of;
-use sheet::literal::number_of;
 use sheet::value::ValueResult;
 use sheet::value::read_value;
 use values::datatypes::PrimitiveType;
 use values::error::ErrorKind;
-use values::order::Ordering;
-use values::order::compare_bytes;
 ghost use mathlib.Core.Path.{_≡_};
 ghost use mathlib.Core.Bool.{true};
 ghost use mathlib.Core.Logic.{_⊎_};
 ghost use lib.ListN.{length};
-ghost use Rattle.values.specs.Ascending.{elem};
-ghost use Rattle.values.specs.Order.{compareNumbers, compareBytes};
 ghost use Rattle.values.specs.Outcomes.{ok};
 ghost use Rattle.values.specs.Types.{layout, fits};
-ghost use Rattle.values.specs.Words.{leNumber, signed};
 ghost use Rattle.values.specs.declared.datatypes.PrimitiveType.the-variants.{String};
 ghost use Rattle.expr.specs.Operators.{arity};
-ghost use Rattle.expr.specs.Holds.{numberTests, bytesTests, missingMeets};
-ghost use Rattle.meets.specs.HeldAnswers.{presentHeld, held, numbersHeld, bytesHeld};
+ghost use Rattle.expr.specs.Holds.{bytesTests};
+ghost use Rattle.meets.specs.HeldAnswers.{held, numbersHeld, bytesHeld};
 ghost use Rattle.sheet.specs.Contents.{NumberType};
-ghost use Rattle.sheet.specs.Contents.{allUtf8, row, rowUtf8};
-ghost use Rattle.sheet.specs.ReadAnswers.{Placed, contentsAt, numbersAt};
+ghost use Rattle.sheet.specs.Contents.{row};
+ghost use Rattle.sheet.specs.ReadAnswers.{Placed, contentsAt};
 ghost use Rattle.meets.specs.HeldAnswers.{heldOf, valueHeld, heldAs};
-
-// Whether a number equals one of the literals in the records that the first count numbers name.
-fn number_among(s: &[u8], numbers: &[u16], count: usize, column: PrimitiveType, v: i64) -> bool
-    requires { ⌜ Placed (layout column) (now s) (now numbers) count ⌝ }
-    ensures { λ r. ⌜ r ≡ elem compareNumbers v (numbersAt (layout column) (now (s .entry)) (now (numbers .entry)) count) ⌝ }
-{
-    let mut i = 0;
-    while i < count {
-        let k = numbers[i] as usize;
-        if number_of(s, k, column) == v {
-            return true;
-        }
-        i += 1;
-    }
-    false
-}
-
-// The same for a byte string.
-fn bytes_among(s: &[u8], numbers: &[u16], count: usize, column: PrimitiveType, v: &[u8]) -> bool
-    requires { ⌜ Placed (layout column) (now s) (now numbers) count ⌝ }
-    ensures { λ r. ⌜ r ≡ elem compareBytes (now (v .entry)) (contentsAt (now (s .entry)) (now (numbers .entry)) count) ⌝ }
-{
-    let mut i = 0;
-    while i < count {
-        let k = numbers[i] as usize;
-        if let Ordering::Equal = compare_bytes(v, content_of(s, k)) {
-            return true;
-        }
-        i += 1;
-    }
-    false
-}
-
-// Whether a missing value meets an operator, whatever its literals.
-fn missing_holds(operator: PredicateOperator) -> bool
-    ensures { λ r. ⌜ r ≡ missingMeets (arity operator) ⌝ }
-{
-    if let PredicateOperator::IsNull = operator {
-        true
-    } else {
-        false
-    }
-}
-
-// Whether a present number meets an operator with those literals.
-fn number_holds(
-    s: &[u8],
-    numbers: &[u16],
-    count: usize,
-    operator: PredicateOperator,
-    column: PrimitiveType,
-    v: i64,
-) -> bool
-    requires { ⌜ Placed (layout column) (now s) (now numbers) count ⌝ }
-    ensures { λ r. ⌜ r ≡ presentHeld numberTests (arity operator) (numbersAt (layout column) (now (s .entry)) (now (numbers .entry)) count) v ⌝ }
-{
-    match operator {
-        PredicateOperator::IsNull => false,
-        PredicateOperator::NotNull => true,
-        PredicateOperator::IsNan => false,
-        PredicateOperator::NotNan => true,
-        PredicateOperator::In => number_among(s, numbers, count, column, v),
-        PredicateOperator::NotIn => !number_among(s, numbers, count, column, v),
-        _ => {
-            if count == 0 {
-                return false;
-            }
-            let k = numbers[0] as usize;
-            number_meets(operator, v, number_of(s, k, column))
-        }
-    }
-}
-
-// Whether a present byte string meets an operator with those literals.
-fn bytes_holds(
-    s: &[u8],
-    numbers: &[u16],
-    count: usize,
-    operator: PredicateOperator,
-    column: PrimitiveType,
-    v: &[u8],
-) -> bool
-    requires { ⌜ Placed (layout column) (now s) (now numbers) count ⌝ }
-    ensures { λ r. ⌜ r ≡ presentHeld bytesTests (arity operator) (contentsAt (now (s .entry)) (now (numbers .entry)) count) (now (v .entry)) ⌝ }
-{
-    match operator {
-        PredicateOperator::IsNull => false,
-        PredicateOperator::NotNull => true,
-        PredicateOperator::IsNan => false,
-        PredicateOperator::NotNan => true,
-        PredicateOperator::In => bytes_among(s, numbers, count, column, v),
-        PredicateOperator::NotIn => !bytes_among(s, numbers, count, column, v),
-        _ => {
-            if count == 0 {
-                return false;
-            }
-            let k = numbers[0] as usize;
-            bytes_meets(operator, v, content_of(s, k))
-        }
-    }
-}
 
 // A test that was made, as the answer.
 fn answered(yes: bool) -> Held

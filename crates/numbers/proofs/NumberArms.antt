@@ -8,7 +8,8 @@ use lib.Signed.{_≤ℤ_, _<ℤ_}
 use mir.Syntax.{w64}
 use mir.Val.{SFits, toZ, ofZ}
 use types.Run.{OneOf}
-use Rattle.values.specs.IntLaws.{ints, back}
+use Rattle.values.specs.IntLaws.{ints}
+use Rattle.values.specs.SignedLaws.{back}
 use Rattle.values.specs.OutcomeLaws.{ok-inj, ok-not-err, gone}
 use Rattle.values.specs.Outcomes.{Res, ok, err, _>>=_, Row, missing, present}
 use Rattle.values.specs.RangeLaws.{in-long}

@@ -7,7 +7,7 @@ use lib.ListN.{length}
 use lib.IntN.{ℤ}
 use mir.Syntax.{w32, w64}
 use mir.Val.{SFits, toZ, ofZ}
-use Rattle.values.specs.IntLaws.{back}
+use Rattle.values.specs.SignedLaws.{back}
 use Rattle.values.specs.RangeLaws.{in-type, four, widen}
 use Rattle.transform.specs.Floor.{floorDiv}
 use Rattle.transform.specs.FloorLaws.{floor-one}

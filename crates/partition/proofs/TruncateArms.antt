@@ -11,8 +11,8 @@ use mir.Syntax.{w32, w64}
 use mir.Val.{Fits, SFits, toZ, ofZ, hbits}
 use Rattle.values.specs.Outcomes.{Res, ok, err, need, _>>_, Row, present}
 use Rattle.values.specs.Types.{inType}
-use Rattle.values.specs.IntLaws.{back}
-use Rattle.values.specs.IntLaws as range
+use Rattle.values.specs.SignedLaws.{back}
+use Rattle.values.specs.SignedLaws as range
 use Rattle.values.specs.RangeLaws.{in-long, in-type-long}
 use Rattle.values.specs.declared.error.ErrorKind.the-variants as error
 use Rattle.values.specs.declared.datatypes.PrimitiveType.{PrimitiveType}

@@ -11,7 +11,8 @@ use borrow.Author.Tests.{eqb-true, ltb-true, ltb-false, not-true}
 use Rattle.values.specs.AscendingLaws.{AllOf, elem-iff, elem-ascending}
 use Rattle.values.specs.Order as order
 use Rattle.values.specs.Order.{compareBytes, isLess, isEqual}
-use Rattle.values.specs.OrderLaws.{is-less, is-equal, same-equal, asymmetric, bytes-order, starts-self, starts-through}
+use Rattle.values.specs.OrderLaws.{is-less, is-equal, same-equal, asymmetric, bytes-order}
+use Rattle.values.specs.PrefixLaws.{starts-self, starts-through}
 use Rattle.values.specs.Outcomes.{Res, ok, _>>=_}
 use Rattle.values.specs.OutcomeLaws.{ok-inj}
 use Rattle.values.specs.TestLaws.{stable, refuted, clash}

@@ -12,13 +12,13 @@ use Rattle.expr.specs.Predicates.{Test, binary, set}
 use Rattle.projection.specs.Steps.{Projected, some, none, withLiteral, withEach}
 
 -- `count` gives L's code points; of a Binary it counts bytes
-module _ (T : List ℕ → Res (List ℕ)) (count : List ℕ → Res ℕ) (w : ℕ) where
-  -- 01: "Let n be L's code points, w the width": what n = w gives, what n < w gives, what n > w gives
-  abbrev pub byLength : List ℕ → Projected (Test (List ℕ)) → Projected (Test (List ℕ)) → Res (Projected (Test (List ℕ))) → Res (Projected (Test (List ℕ)))
-  byLength l whole short long = do
-    n ← count l
-    cond (eqb n w) (ok whole) (cond (ltb n w) (ok short) long)
+-- 01: "Let n be L's code points, w the width": what n = w gives, what n < w gives, what n > w gives
+abbrev pub byLength : (List ℕ → Res ℕ) → ℕ → List ℕ → Projected (Test (List ℕ)) → Projected (Test (List ℕ)) → Res (Projected (Test (List ℕ))) → Res (Projected (Test (List ℕ)))
+byLength count w l whole short long = do
+  n ← count l
+  cond (eqb n w) (ok whole) (cond (ltb n w) (ok short) long)
 
+module _ (T : List ℕ → Res (List ℕ)) (count : List ℕ → Res ℕ) (w : ℕ) where
   -- 01: "inclusive < and ≤ give ≤ T(L); > and ≥ give ≥ T(L)"; "StartsWith: n = w gives Eq L; n < w gives StartsWith L; n > w gives StartsWith T(L)
   -- inclusive"; "NotStartsWith: n = w gives NotEq L; n < w NotStartsWith L; n > w none inclusive"
   abbrev pub inclusiveBytes : Test (List ℕ) → Res (Projected (Test (List ℕ)))
@@ -28,8 +28,8 @@ module _ (T : List ℕ → Res (List ℕ)) (count : List ℕ → Res ℕ) (w : �
   inclusiveBytes (binary atLeast l) = withLiteral atLeast (T l)
   inclusiveBytes (binary equal l) = withLiteral equal (T l)
   inclusiveBytes (binary notEqual l) = ok none
-  inclusiveBytes (binary startsWith l) = byLength l (some (binary equal l)) (some (binary startsWith l)) (withLiteral startsWith (T l))
-  inclusiveBytes (binary notStartsWith l) = byLength l (some (binary notEqual l)) (some (binary notStartsWith l)) (ok none)
+  inclusiveBytes (binary startsWith l) = byLength count w l (some (binary equal l)) (some (binary startsWith l)) (withLiteral startsWith (T l))
+  inclusiveBytes (binary notStartsWith l) = byLength count w l (some (binary notEqual l)) (some (binary notStartsWith l)) (ok none)
   inclusiveBytes (set within ls) = withEach compareBytes within T ls
   inclusiveBytes (set outside ls) = ok none
 
@@ -41,8 +41,8 @@ module _ (T : List ℕ → Res (List ℕ)) (count : List ℕ → Res ℕ) (w : �
   strictBytes (binary atLeast l) = withLiteral greater (T l)
   strictBytes (binary equal l) = ok none
   strictBytes (binary notEqual l) = withLiteral notEqual (T l)
-  strictBytes (binary startsWith l) = byLength l (some (binary equal l)) (some (binary startsWith l)) (ok none)
-  strictBytes (binary notStartsWith l) = byLength l (some (binary notEqual l)) (some (binary notStartsWith l)) (withLiteral notStartsWith (T l))
+  strictBytes (binary startsWith l) = byLength count w l (some (binary equal l)) (some (binary startsWith l)) (ok none)
+  strictBytes (binary notStartsWith l) = byLength count w l (some (binary notEqual l)) (some (binary notStartsWith l)) (withLiteral notStartsWith (T l))
   strictBytes (set within ls) = ok none
   strictBytes (set outside ls) = withEach compareBytes outside T ls
 

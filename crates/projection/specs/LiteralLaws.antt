@@ -159,7 +159,7 @@ module _ (T : List ℕ → Res (List ℕ)) (count : List ℕ → Res ℕ) (w : �
   byte-sets o ls x = each-lands compareBytes h o T g gives ls x
 
   by-length : (l : List ℕ) (whole short : Projected (Test (List ℕ))) (long : Res (Projected (Test (List ℕ)))) (k : Test (List ℕ) → Type 0)
-      → Returned (ok whole) k → Returned (ok short) k → Returned long k → Returned (byLength T count w l whole short long) k
+      → Returned (ok whole) k → Returned (ok short) k → Returned long k → Returned (byLength count w l whole short long) k
   by-length l whole short long k a b c = go (count l)
     where
       choice : (s t : Bool) → Returned (cond s (ok whole) (cond t (ok short) long)) k
@@ -172,7 +172,7 @@ module _ (T : List ℕ → Res (List ℕ)) (count : List ℕ → Res ℕ) (w : �
       go (err e) = tt
 
   starts : (o p : Binary) (l : List ℕ) (long : Res (Projected (Test (List ℕ)))) → g l → Returned long (λ q. Landed h 1 (test q))
-      → Returned (byLength T count w l (some (binary o l)) (some (binary p l)) long) (λ q. Landed h 1 (test q))
+      → Returned (byLength count w l (some (binary o l)) (some (binary p l)) long) (λ q. Landed h 1 (test q))
   starts o p l long x c = by-length l (some (binary o l)) (some (binary p l)) long (λ q. Landed h 1 (test q)) (kept o l x) (kept p l x) c
 
   pub inclusive-bytes : (y : Test (List ℕ)) → AllOf g (literalsIn (test y))

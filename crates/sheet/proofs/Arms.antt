@@ -7,7 +7,7 @@ use lib.Dec.{lit≤}
 use lib.IntN.{ℤ, pos}
 use mir.Syntax.{w32, w64}
 use mir.Val.{SFits, toZ, ofZ}
-use Rattle.values.specs.IntLaws.{back}
+use Rattle.values.specs.SignedLaws.{back}
 use Rattle.values.specs.RangeLaws.{widen, four, eight, range-fits}
 use Rattle.values.specs.Types.{layout, number, bytes, contentSize, fits}
 use Rattle.values.specs.Words.{word, signed}

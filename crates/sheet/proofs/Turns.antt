@@ -11,7 +11,7 @@ use lib.Seq.{slice, slice-cons, slice-empty}
 use mir.Syntax.{w64}
 use mir.Val.{SFits, toZ, ofZ}
 use Rattle.values.specs.Ascending.{elem}
-use Rattle.values.specs.IntLaws.{back, eq-taken}
+use Rattle.values.specs.SignedLaws.{back, eq-taken}
 use Rattle.values.specs.Order.{compareNumbers, isEqual}
 use Rattle.values.specs.OrderLaws.{number-equal, is-equal}
 use Rattle.values.specs.TestLaws.{refuted}

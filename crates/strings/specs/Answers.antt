@@ -49,14 +49,14 @@ truncatedLeaf column width a l = do
 
 abbrev pub startsLeaf : Question → PrimitiveType → ℕ → List ℕ → Res (Projected (Test (List ℕ)))
 startsLeaf question column width l =
-    byLength (bytesUnder column (Truncate width)) (strictLength column) width l
+    byLength (strictLength column) width l
     (some (binary operators.equal l))
     (some (binary operators.startsWith l))
     (asked question (truncatedLeaf column width (operators.one operators.startsWith) l) (ok none))
 
 abbrev pub notStartsLeaf : Question → PrimitiveType → ℕ → List ℕ → Res (Projected (Test (List ℕ)))
 notStartsLeaf question column width l =
-    byLength (bytesUnder column (Truncate width)) (strictLength column) width l
+    byLength (strictLength column) width l
     (some (binary operators.notEqual l))
     (some (binary operators.notStartsWith l))
     (asked question (ok none) (truncatedLeaf column width (operators.one operators.notStartsWith) l))

@@ -6,7 +6,8 @@ use mathlib.Core.Bool.{Bool, true, false, cond}
 use lib.IntN.{ℤ, pos, _+ℤ_, _-ℤ_, _*ℤ_}
 use mir.Syntax.{w32}
 use mir.Val.{SFits, toZ, ofZ}
-use Rattle.values.specs.IntLaws.{ints, plus, minus, times, back}
+use Rattle.values.specs.IntLaws.{ints, plus, minus, times}
+use Rattle.values.specs.SignedLaws.{back}
 use Rattle.transform.specs.Gregorian.{yearAt, monthIn}
 use Rattle.transform.specs.GregorianLaws.{monthIn-small}
 use Rattle.transform.specs.Calendar.{inCalendar, daysBack, shift, civilYear, civilMonth, yearOf, monthOf}

@@ -6,7 +6,7 @@ use lib.IntN.{ℤ}
 use lib.Signed.{mag}
 use mir.Syntax.{w32, w64}
 use mir.Val.{SFits, toZ, ofZ, hbits}
-use Rattle.values.specs.IntLaws.{back, ok}
+use Rattle.values.specs.SignedLaws.{back, ok}
 use Rattle.transform.specs.Floor.{floorDiv}
 use Rattle.transform.specs.FloorLaws.{floor-fits, day-fits}
 

@@ -16,7 +16,8 @@ use Rattle.values.specs.Utf8.{isCodePoint, goesOn, codePoints, allCodePoints, u
 use Rattle.values.specs.TestLaws.{and-both, clash}
 use Rattle.values.specs.CodePointLaws.{never-empty, beginning-equal}
 use Rattle.values.specs.Utf8Laws.{concat-code-points, code-points-append, utf8-fresh, utf8-after, utf8-take}
-use Rattle.values.specs.OrderLaws.{common-beginning, starts-append, rest-of}
+use Rattle.values.specs.OrderLaws.{common-beginning}
+use Rattle.values.specs.PrefixLaws.{starts-append, rest-of}
 use Rattle.values.specs.declared.order.Ordering.{Ordering}
 use Rattle.values.specs.declared.order.Ordering.the-variants.{Less, Greater}
 use Rattle.transform.specs.Truncate.{firstCodePoints}

@@ -8,7 +8,8 @@ use mir.Syntax.{Width}
 use mir.Val.{Fits, SFits, toZ, ofZ, bits, hbits}
 use mir.Facts.{sfits-toZ, toZ-pos, toZ-neg}
 use mir.ValLaws.{pow-bits}
-use Rattle.values.specs.IntLaws.{ints, minus, back}
+use Rattle.values.specs.IntLaws.{ints, minus}
+use Rattle.values.specs.SignedLaws.{back}
 use Rattle.values.specs.Words.{signed, unsigned}
 use Rattle.values.specs.RangeLaws.{Wide}
 use Rattle.values.specs.WordLaws.{signed-toZ}

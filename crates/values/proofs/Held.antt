@@ -6,7 +6,7 @@ use lib.IntN.{ℤ}
 use mir.Syntax.{w64}
 use mir.Val.{SFits, toZ, ofZ}
 use Rattle.values.specs.Types.{number, bytes, contentSize, layout, inRange, inType}
-use Rattle.values.specs.IntLaws.{back}
+use Rattle.values.specs.SignedLaws.{back}
 use Rattle.values.specs.RangeLaws.{in-type, eight}
 use Rattle.values.specs.declared.datatypes.PrimitiveType.{PrimitiveType}
 

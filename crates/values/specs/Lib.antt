@@ -11,6 +11,7 @@ pub mod Ascending
 pub mod TestLaws
 pub mod AnswerLaws
 pub mod IntLaws
+pub mod SignedLaws
 pub mod RangeLaws
 pub mod TypesLaws
 pub mod WordLaws
@@ -19,6 +20,7 @@ pub mod CodePointLaws
 pub mod Utf8Laws
 pub mod Utf8StepLaws
 pub mod OrderLaws
+pub mod PrefixLaws
 pub mod AscendingLaws
 pub mod PlaceLaws
 pub mod OutcomeLaws

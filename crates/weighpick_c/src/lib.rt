@@ -6,7 +6,7 @@ use api::project::strict_project;
 ghost use mathlib.Core.Path.{_≡_};
 ghost use Rattle.projection.specs.declared.question.Question.the-variants.{Inclusive, Strict};
 ghost use Rattle.answers.specs.Answers.{asResult, answerNumber, answerCount};
-ghost use Rattle.answers.specs.Leaves.{sheetBuffer};
+ghost use Rattle.write.specs.Written.{sheetBuffer};
 ghost use Rattle.api.specs.HoldsTest.{holdsTest, heldNumber};
 ghost use Rattle.api.specs.Routines.{projectSheet, transformValue, valueBuffer, answered, leftIn};
 

@@ -1,5 +1,5 @@
 -- How sheets and value records are written. Assumes nothing.
-use Prim.Native.Nat.{ℕ, suc, _-_}
+use Prim.Native.Nat.{ℕ, suc, _-_, _*_}
 use mathlib.Core.List.{List, [], _∷_, _++_}
 use lib.ListN.{length, replicate}
 use lib.IntN.{ℤ}
@@ -11,6 +11,7 @@ use Rattle.expr.specs.Operators.{operatorNumber}
 use Rattle.expr.specs.Predicates.{Predicate, operatorIn, literalsIn}
 use Rattle.expr.specs.declared.operator.PredicateOperator.{PredicateOperator}
 use Rattle.sheet.specs.Records.{recordSize, missingMark}
+use Rattle.sheet.specs.Sheets.{holdsLimit}
 
 abbrev pub literalRecord : ℕ → List ℕ → List ℕ
 literalRecord next bs = leBytes 2 next ++ (leBytes 2 (length bs) ++ (bs ++ replicate (contentSize - length bs) 0))
@@ -43,3 +44,7 @@ answerSheet type p = answerBytes (operatorIn p) type (literalsIn p)
 abbrev pub numberBytes : Layout → ℤ → List ℕ
 numberBytes (number n) z = signedBytes n z
 numberBytes (bytes n) z = []
+
+-- 01, answer 2: "result buffer under 8,256 bytes": the longest sheet, a head and 128 literals
+abbrev pub sheetBuffer : ℕ
+sheetBuffer = recordSize * suc holdsLimit

@@ -4,7 +4,7 @@ use mathlib.Core.Path.{_≡_, _∙_}
 use lib.ListN.{getD}
 use denote.Ref.{now}
 use borrow.Author.Needs.{needs}
-use Rattle.values.specs.IntLaws.{back, ok}
+use Rattle.values.specs.SignedLaws.{back, ok}
 use Rattle.values.specs.Types.{layout}
 use Rattle.sheet.specs.ReadAnswers.{numberAt}
 use Rattle.answers.specs.OneLiteralLaws.{one-number, one-there}

@@ -5,7 +5,7 @@ use denote.Ref.{now}
 use mir.Syntax.{w64}
 use mir.Val.{SFits}
 use borrow.Author.Needs.{needs}
-use Rattle.values.specs.IntLaws.{back}
+use Rattle.values.specs.SignedLaws.{back}
 use Rattle.partition.specs.Answers.{numberResult}
 use Rattle.partition.specs.Partition.{numberPartition}
 use Rattle.sheet.specs.Contents.{row}

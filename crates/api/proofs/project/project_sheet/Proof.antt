@@ -3,7 +3,7 @@ use denote.Ref.{now}
 use borrow.Author.Needs.{needs}
 use Rattle.sheet.specs.ResultLaws.{SheetTold, sheet-told, sheet-refused}
 use Rattle.sheet.specs.Sheets.{projectLimit}
-use Rattle.answers.specs.Leaves.{sheetBuffer}
+use Rattle.write.specs.Written.{sheetBuffer}
 use Rattle.api.specs.Routines.{projectSheet}
 use Rattle.api.proofs.Buffers.{too-small, settled-in}
 use Rattle.api.proofs.ProjectReads.{no-sheet, ready, sheet-answered}

@@ -1,7 +1,7 @@
 -- `test::test_number` meets its contract: the answers for a present value and for a missing one. Assumes nothing.
 use mathlib.Core.Path.{ap, _∙_}
 use denote.Ref.{now}
-use Rattle.values.specs.IntLaws as ints
+use Rattle.values.specs.SignedLaws as ints
 use Rattle.values.specs.Outcomes.{ok}
 use Rattle.expr.specs.Operators.{arity}
 use Rattle.meets.specs.HeldAnswers.{heldAs}

@@ -2,7 +2,8 @@
 use lib.IntN.{ℤ, pos, negsuc, _-ℤ_}
 use mir.Syntax.{w64}
 use mir.Val.{SFits}
-use Rattle.values.specs.IntLaws.{ints, minus, apart, lit, eq-taken, eq-left}
+use Rattle.values.specs.IntLaws.{ints, minus, apart}
+use Rattle.values.specs.SignedLaws.{lit, eq-taken, eq-left}
 use Rattle.values.specs.Types.{inType}
 use Rattle.numbers.proofs.NumberArms.{one-below}
 use borrow.Author.Needs.{needs}

@@ -2,7 +2,7 @@
 use mathlib.Core.Path.{_≡_, refl}
 use mir.Syntax.{w32}
 use mir.Val.{SFits}
-use Rattle.values.specs.IntLaws.{back}
+use Rattle.values.specs.SignedLaws.{back}
 use Rattle.partition.proofs.NumberArms.{date-fits, days}
 use borrow.Author.Needs.{needs}
 use Rattle.partition.proofs.number.day_of.Statement.{statement}

@@ -1,7 +1,7 @@
 -- `partition::number::year_number` meets its contract. Assumes nothing.
 use mir.Syntax.{w32}
 use mir.Val.{SFits}
-use Rattle.values.specs.IntLaws.{back}
+use Rattle.values.specs.SignedLaws.{back}
 use Rattle.values.specs.RangeLaws.{widen}
 use Rattle.partition.proofs.NumberArms.{counts}
 use borrow.Author.Needs.{needs}

@@ -6,7 +6,7 @@ use lib.ListN.{length}
 use denote.Ref.{now}
 use mir.Syntax.{w32, w64}
 use mir.Val.{SFits}
-use Rattle.values.specs.IntLaws.{back, ok}
+use Rattle.values.specs.SignedLaws.{back, ok}
 use Rattle.values.specs.RangeLaws.{widen}
 use Rattle.sheet.proofs.Arms.{cast-up}
 use Rattle.sheet.proofs.Types.{whole}

@@ -9,7 +9,7 @@ use denote.Enum.Declared.{tagOf}
 use denote.Ref.{now}
 use borrow.Author.Needs.{needs}
 use borrow.Author.Tests.{eqb-true}
-use Rattle.values.specs.IntLaws.{back, ok}
+use Rattle.values.specs.SignedLaws.{back, ok}
 use Rattle.values.specs.Types.{number, bytes, layout, contentSize}
 use Rattle.values.proofs.datatypes.PrimitiveType.{the-type}
 use Rattle.values.specs.declared.datatypes.PrimitiveType.{PrimitiveType}

@@ -2,7 +2,7 @@
 use mir.Syntax.{w64}
 use mir.Facts.{sfits-widen}
 use borrow.Author.Needs.{needs}
-use Rattle.values.specs.IntLaws.{back}
+use Rattle.values.specs.SignedLaws.{back}
 use Rattle.values.specs.RangeLaws.{range-fits, four}
 use Rattle.values.specs.WordLaws.{unsigned-low}
 use Rattle.values.proofs.words.put_i32.Statement.{statement}

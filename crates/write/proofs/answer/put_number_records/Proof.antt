@@ -13,7 +13,7 @@ use mir.Val.{toZ, ofZ}
 use denote.Ref.{now}
 use borrow.Author.Needs.{needs}
 use Rattle.values.specs.AscendingLaws.{AllOf}
-use Rattle.values.specs.IntLaws.{back}
+use Rattle.values.specs.SignedLaws.{back}
 use Rattle.values.specs.RangeLaws.{in-type-long}
 use Rattle.values.specs.Types.{layout, inType}
 use Rattle.values.specs.Words.{over}

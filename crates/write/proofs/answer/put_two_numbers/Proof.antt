@@ -4,7 +4,7 @@ use mathlib.Core.List.{[], _∷_}
 use mathlib.Core.Path.{refl}
 use denote.Ref.{now}
 use borrow.Author.Needs.{needs}
-use Rattle.values.specs.IntLaws.{back}
+use Rattle.values.specs.SignedLaws.{back}
 use Rattle.values.specs.Types.{layout}
 use Rattle.write.specs.AnswerLaws.{head-then, literal-then, last-literal}
 use Rattle.write.specs.WriteLaws.{length-number}

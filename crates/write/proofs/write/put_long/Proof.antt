@@ -3,7 +3,7 @@ use Prim.Native.Nat.{_*_}
 use native.Mathlib.Omega.{arith}
 use denote.Ref.{now}
 use borrow.Author.Needs.{needs}
-use Rattle.values.specs.IntLaws.{back}
+use Rattle.values.specs.SignedLaws.{back}
 use Rattle.values.specs.Words.{signedBytes}
 use Rattle.sheet.specs.Records.{recordSize}
 use Rattle.write.specs.WriteLaws.{literal-writes}

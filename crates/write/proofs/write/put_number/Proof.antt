@@ -9,7 +9,7 @@ use mir.Val.{SFits, toZ, ofZ}
 use types.Run.{OneOf, miss}
 use denote.Enum.Declared.{tagOf}
 use borrow.Author.Needs.{needs}
-use Rattle.values.specs.IntLaws.{back}
+use Rattle.values.specs.SignedLaws.{back}
 use Rattle.values.specs.RangeLaws.{in-type, in-type-long, four}
 use Rattle.values.specs.Types.{number, layout, inType}
 use Rattle.values.proofs.datatypes.PrimitiveType.{the-type}

@@ -6,7 +6,8 @@ use mathlib.Core.Bool.{true}
 use lib.IntN.{ℤ, natAbs}
 use mir.Syntax.{w32}
 use mir.Val.{SFits}
-use Rattle.values.specs.IntLaws.{ints, lit, lt-taken, lt-left}
+use Rattle.values.specs.IntLaws.{ints}
+use Rattle.values.specs.SignedLaws.{lit, lt-taken, lt-left}
 use Rattle.transform.specs.Gregorian.{yearAt, monthIn}
 use Rattle.transform.specs.GregorianLaws.{monthIn-small}
 use Rattle.transform.specs.Calendar.{firstCalendarDay, lastCalendarDay, inCalendar, daysBack, shift}

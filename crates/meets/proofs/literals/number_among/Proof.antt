@@ -1,4 +1,4 @@
--- `test::number_among` meets its contract. The loop's invariant: the literals from index i on answer for all. The measure is what is left of the
+-- `literals::number_among` meets its contract. The loop's invariant: the literals from index i on answer for all. The measure is what is left of the
 -- count. Assumes nothing.
 use Prim.Native.Nat.{_≤_, _-_}
 use native.Mathlib.Omega.{arith}
@@ -10,13 +10,13 @@ use mir.Syntax.{w64}
 use mir.Val.{toZ}
 use borrow.Author.Needs.{needs}
 use Rattle.values.specs.Ascending.{elem}
-use Rattle.values.specs.IntLaws.{back, ok}
+use Rattle.values.specs.SignedLaws.{back, ok}
 use Rattle.values.specs.Order.{compareNumbers}
 use Rattle.values.specs.Types.{layout}
 use Rattle.sheet.specs.ReadAnswers.{numberAt}
 use Rattle.sheet.proofs.Turns.{for-member, found-here, not-here, nowhere, equal-here, other-here}
-use Rattle.meets.proofs.test.number_among.Statement.{statement}
-use Rattle.meets.proofs.test.number_among.Tie as tie
+use Rattle.meets.proofs.literals.number_among.Statement.{statement}
+use Rattle.meets.proofs.literals.number_among.Tie as tie
 
 abbrev Inv-loop : tie.InvT-loop
 Inv-loop s numbers count column v i₀ i =

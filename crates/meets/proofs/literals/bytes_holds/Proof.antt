@@ -1,4 +1,4 @@
--- `test::bytes_holds` meets its contract: each arm answers for its operator, and `_` for those that take one literal. Assumes nothing.
+-- `literals::bytes_holds` meets its contract: each arm answers for its operator, and `_` for those that take one literal. Assumes nothing.
 use native.Mathlib.Omega.{arith}
 use mathlib.Core.Path.{_∙_}
 use denote.Ref.{now}
@@ -6,8 +6,8 @@ use Rattle.expr.specs.Holds.{bytesTests}
 use Rattle.sheet.specs.ReadAnswers.{contentAt}
 use borrow.Author.Needs.{needs}
 use Rattle.meets.proofs.Arms.{arms, without-literal, with-literal}
-use Rattle.meets.proofs.test.bytes_holds.Statement.{statement}
-use Rattle.meets.proofs.test.bytes_holds.Tie as tie
+use Rattle.meets.proofs.literals.bytes_holds.Statement.{statement}
+use Rattle.meets.proofs.literals.bytes_holds.Tie as tie
 
 returns : tie.Need-returns
 returns c =

@@ -1,4 +1,4 @@
--- `test::bytes_among` meets its contract. The loop's invariant: the literals from index i on answer for all. The measure is what is left of the
+-- `literals::bytes_among` meets its contract. The loop's invariant: the literals from index i on answer for all. The measure is what is left of the
 -- count. Assumes nothing.
 use Prim.Native.Nat.{_≤_, _-_}
 use native.Mathlib.Omega.{arith}
@@ -17,8 +17,8 @@ use Rattle.values.specs.declared.order.Ordering.the-variants.{Less, Equal, Grea
 use Rattle.values.proofs.order.Ordering.{the-type}
 use Rattle.sheet.specs.ReadAnswers.{contentAt}
 use Rattle.sheet.proofs.Turns.{for-member, found-here, not-here, nowhere}
-use Rattle.meets.proofs.test.bytes_among.Statement.{statement}
-use Rattle.meets.proofs.test.bytes_among.Tie as tie
+use Rattle.meets.proofs.literals.bytes_among.Statement.{statement}
+use Rattle.meets.proofs.literals.bytes_among.Tie as tie
 
 -- what `_` is told of the order
 unequal : (o : Ordering) → OneOf (0 ∷ 2 ∷ []) (tagOf the-type o) → isEqual o ≡ false

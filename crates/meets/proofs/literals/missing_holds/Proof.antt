@@ -1,4 +1,4 @@
--- `test::missing_holds` meets its contract: `_` is for the operators that no missing value meets. Assumes nothing.
+-- `literals::missing_holds` meets its contract: `_` is for the operators that no missing value meets. Assumes nothing.
 use borrow.Author.Needs.{needs}
 use mathlib.Core.Bool.{false}
 use mathlib.Core.List.{[], _∷_}
@@ -7,8 +7,8 @@ use Rattle.expr.specs.Operators.{arity}
 use Rattle.expr.specs.declared.operator.PredicateOperator.the-variants.{IsNull}
 use Rattle.expr.proofs.Arms.{but, agree}
 use Rattle.expr.specs.Holds.{missingMeets}
-use Rattle.meets.proofs.test.missing_holds.Statement.{statement}
-use Rattle.meets.proofs.test.missing_holds.Tie as tie
+use Rattle.meets.proofs.literals.missing_holds.Statement.{statement}
+use Rattle.meets.proofs.literals.missing_holds.Tie as tie
 
 returns : tie.Need-returns
 returns c = search needs

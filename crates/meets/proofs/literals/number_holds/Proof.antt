@@ -1,15 +1,15 @@
--- `test::number_holds` meets its contract: each arm answers for its operator, and `_` for those that take one literal. Assumes nothing.
+-- `literals::number_holds` meets its contract: each arm answers for its operator, and `_` for those that take one literal. Assumes nothing.
 use native.Mathlib.Omega.{arith}
 use mathlib.Core.Path.{_∙_}
 use denote.Ref.{now}
 use Rattle.values.specs.Types.{layout}
 use Rattle.expr.specs.Holds.{numberTests}
 use Rattle.sheet.specs.ReadAnswers.{numberAt}
-use Rattle.values.specs.IntLaws.{back, ok}
+use Rattle.values.specs.SignedLaws.{back, ok}
 use borrow.Author.Needs.{needs}
 use Rattle.meets.proofs.Arms.{arms, member, no-member, without-literal, with-literal}
-use Rattle.meets.proofs.test.number_holds.Statement.{statement}
-use Rattle.meets.proofs.test.number_holds.Tie as tie
+use Rattle.meets.proofs.literals.number_holds.Statement.{statement}
+use Rattle.meets.proofs.literals.number_holds.Tie as tie
 
 returns : tie.Need-returns
 returns c =
