@@ -27,7 +27,7 @@ use Rattle.projection.specs.declared.question.Question.the-variants.{Inclusive,
 use Rattle.sheet.specs.ReadAnswers.{Placed, contentsAt, numbersAt, takes}
 use Rattle.sheet.specs.Records.{recordSize}
 use Rattle.sheet.specs.Sheets.{projectLimit}
-use Rattle.write.specs.Written.{answerSheet, numberBytes}
+use Rattle.write.specs.Written.{answerSheet, numberBytes, sheetBuffer}
 use Rattle.sheet.specs.Values.{byLayout, mapLiterals}
 use Rattle.answers.specs.declared.leaf.Leaf.{Leaf}
 
