@@ -103,7 +103,7 @@ fi
 
 (cd "$work" && cargo build $offline --profile "$profile" ${package:+--package "$package"})
 if [ -n "$test" ]; then
-  (cd "$work" && cargo test $offline --release --package beside)
+  (cd "$work" && cargo test $offline --release --package beside --package compare)
   [ -n "$registry" ] || (cd "$work/standins/chrono" && cargo test $offline --release)
 fi
 unchanged

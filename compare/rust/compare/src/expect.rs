@@ -1,5 +1,5 @@
 //! What the port must answer: 2, 3 and 4 as document 01 rules on bytes (`reader`); else what the crate answers; and
-//! where docs/DIFFERENCES.md names the input, what the specification gives (`rules`).
+//! where docs/DIFFERENCES.md names the input (`rules`), what the specification gives (`specification`).
 
 use beside::crate_side;
 use beside::leaf::{
@@ -11,6 +11,7 @@ use beside::sheet::{sheet_of, value_record};
 use crate::meets::meets;
 use crate::reader;
 use crate::rules::{self, Rule};
+use crate::specification;
 
 /// An answer as the routines give it: the number, and the bytes written.
 #[derive(PartialEq, Eq)]
@@ -57,7 +58,7 @@ pub fn projection(question: Question, read: &Result<Leaf, u32>, lent: usize) -> 
         Err(number) => Expected::unwritten(*number),
         Ok(leaf) => {
             let rule = rules::for_leaf(question, leaf);
-            let ruled = rule.map(|rule| (rule, answer_sheet(leaf, rules::answer(rule, question, leaf))));
+            let ruled = rule.map(|rule| (rule, answer_sheet(leaf, specification::answer(question, leaf))));
             Expected::decided(projection_of_crate(question, leaf), ruled)
         }
     }
@@ -71,7 +72,7 @@ pub fn transformed(column: u8, transform: u8, width: u32, read: &Result<Value, u
         Ok(value) => {
             let ruled = content(value).and_then(|content| {
                 let rule = rules::for_value(column, transform, content)?;
-                Some((rule, result_record(rules::transformed(column, transform, content))))
+                Some((rule, result_record(specification::transformed(column, transform, content))))
             });
             Expected::decided(transformed_of_crate(column, transform, width, value), ruled)
         }

@@ -1,21 +1,23 @@
 //! The crate iceberg beside the port weighpick: the same inputs go to both, and every answer of the port must be the
 //! crate's, but where docs/DIFFERENCES.md names the input; there it must be what the specification gives.
 //!
-//! Inputs are first all those of some small worlds (`every`), then random ones from a seed (`draw`, `damage`). `expect`
-//! says what is expected, `comparison` asks the port and looks at every byte, `tally` counts. With --sample, the crate's
-//! own answers are written as cases for the gate's program instead (`sample`).
+//! Inputs are first all those of some small worlds (`every`, `every_sheet`), then random ones from a seed (`draw`,
+//! `damage`). `expect` says what is expected, `comparison` asks the port and looks at every byte, `tally` counts. With
+//! --sample, the crate's own answers are written as cases for the gate's program instead (`sample`).
 
 mod comparison;
 mod damage;
 mod draw;
 mod edges;
 mod every;
+mod every_sheet;
 mod expect;
 mod meets;
 mod reader;
 mod rng;
 mod rules;
 mod sample;
+mod specification;
 mod tally;
 mod types;
 mod words;
@@ -93,7 +95,7 @@ fn main() -> ExitCode {
 }
 
 fn run_every(comparison: &mut Comparison) {
-    for (name, part) in every::PARTS {
+    for (name, part) in every::PARTS.into_iter().chain(every_sheet::PARTS) {
         let (start, before) = (Instant::now(), comparison.tally.answers());
         part(comparison);
         let answers = comparison.tally.answers() - before;
