@@ -1,4 +1,5 @@
 -- Lemmas that several proofs of this crate share.
+pub mod Ascii
 pub mod BitLaws
 pub mod Held
 pub mod Refusals

@@ -1,9 +1,10 @@
 // UTF-8: whether bytes are it, and how many code points they are.
+use crate::words::u64_at;
 ghost use mathlib.Core.Path.{_≡_};
 ghost use mathlib.Core.Bool.{false};
 ghost use mathlib.Core.List.{List, _∷_};
-ghost use Prim.Native.Nat.{ℕ};
-ghost use lib.ListN.{length};
+ghost use Prim.Native.Nat.{ℕ, _≤_};
+ghost use lib.ListN.{length, drop};
 ghost use Rattle.values.specs.Utf8.{continues, codePoints, utf8};
 ghost use Rattle.values.specs.Utf8StepLaws.{awaited};
 
@@ -77,12 +78,27 @@ fn after_byte(q: Rest, b: u8) -> Rest
     Rest(q.0 - 1, 0x80, 0xBF)
 }
 
-// Whether bytes are UTF-8: read byte by byte, up to the first that may not stand where it does.
+// How many bytes from the start on are ASCII, counted in eights.
+fn ascii_words(s: &[u8]) -> usize
+    ensures { λ r. ⌜ r ≤ length (now (s .entry)) ⌝ }
+    ensures { λ r. ⌜ utf8 (drop r (now (s .entry))) ≡ utf8 (now (s .entry)) ⌝ }
+{
+    let mut i = 0;
+    while s.len() - i >= 8 {
+        if u64_at(s, i) & 0x8080808080808080 != 0 {
+            return i;
+        }
+        i += 8;
+    }
+    i
+}
+
+// Whether bytes are UTF-8: read byte by byte after the words that are ASCII, up to the first that may not stand where it does.
 pub fn is_utf8(s: &[u8]) -> bool
     ensures { λ r. ⌜ r ≡ utf8 (now (s .entry)) ⌝ }
 {
     let mut q = Rest(0, 0x80, 0xBF);
-    let mut i = 0;
+    let mut i = ascii_words(s);
     while i < s.len() {
         q = after_byte(q, s[i]);
         if q.0 != 0 {

@@ -18,11 +18,11 @@ abbrev μ-loop : tie.MeasureT-loop
 -- after a turn's byte the rest still gives the whole answer
 kept :
     (c : tie.After-after-byte Inv-loop μ-loop) →
-    awaited (c .after-byte .result) (drop (c .before .before .before .loop .i + 1) (c .before .before .before .before .before .args .s .now))
-    ≡ utf8 (c .before .before .before .before .before .args .s .now)
+    awaited (c .after-byte .result) (drop (c .before .before .before .loop .i + 1) (c .before .before .before .before .before .before .args .s .now))
+    ≡ utf8 (c .before .before .before .before .before .before .args .s .now)
 kept c =
     let l = c .before .before .before in
-    await-one (l .before .before .args .s .now) (l .loop .i) (c .before .before .loop-test .taken) (l .loop .q) (c .after-byte .result) (c .after-byte .ensures)
+    await-one (l .before .before .before .args .s .now) (l .loop .i) (c .before .before .loop-test .taken) (l .loop .q) (c .after-byte .result) (c .after-byte .ensures)
     ∙ l .loop .inv .1
 
 returns : tie.Need-returns Inv-loop μ-loop
@@ -37,7 +37,7 @@ returns-2 : tie.Need-returns-2 Inv-loop μ-loop
 returns-2 c =
     let l = c .before .before in
     await-end (l .loop .q)
-    ∙ ap (awaited (l .loop .q)) (sym (drop-of-length-le (l .before .before .args .s .now) (c .before .loop-test .left)))
+    ∙ ap (awaited (l .loop .q)) (sym (drop-of-length-le (l .before .before .before .args .s .now) (c .before .loop-test .left)))
     ∙ l .loop .inv .1
 
 pub is-utf8-spec : {M : Type 1} → statement M
@@ -47,6 +47,7 @@ is-utf8-spec =
     Inv-loop
     μ-loop
     (search needs)
+    (λ c. c .ascii-words .ensures)
     (search needs)
     (search needs)
     returns
