@@ -12,7 +12,7 @@ build.sh --registry [options]     the crate from the registry, iceberg = "=0.10.
   --out OUT         everything that is built goes below OUT (default: ../target/compare), nothing is installed
   --package NAME    build this one program of rust/ (default: all)
   --profile NAME    cargo profile: release (overflow checks on, the default) or bench-crate (cargo's ordinary release)
-  --test            run the tests of rust/beside, and of the stand-in for chrono, too (profile release)
+  --test            run the tests of rust/beside, rust/compare and of the stand-in for chrono, too (profile release)
 
 The last line of the output is the folder of the programs. With --crate, Debian's packages of the real crates are downloaded by name
 (apt-get download; `apt-get update` first on a fresh machine) and unpacked below OUT. STANDINS.md says what stands in for what.
