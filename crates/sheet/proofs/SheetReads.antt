@@ -3,7 +3,7 @@ use Prim.Native.Nat.{ℕ, suc, _+_, _*_, _%_, _≤_, _<_}
 use native.Mathlib.Nat.{zero-add}
 use native.Mathlib.Omega.{arith}
 use mathlib.Core.Bool.{true, false}
-use mathlib.Core.List.{List, [], map}
+use mathlib.Core.List.{List, map}
 use mathlib.Core.Path.{_≡_, refl, sym, ap, subst, _∙_}
 use lib.ListN.{length, getD, take, length-map}
 use lib.Seq.{getD-take}
@@ -14,20 +14,18 @@ use Rattle.values.specs.Types.{layout}
 use Rattle.values.specs.declared.error.ErrorKind.{ErrorKind}
 use Rattle.values.specs.declared.error.ErrorKind.the-variants.{Malformed}
 use Rattle.expr.specs.Operators.{arity}
-use Rattle.sheet.specs.ReadAnswers.{takes, contentAt, walkedAs, Stored, headIn, headResult, sheetResult, LiteralsRead}
+use Rattle.sheet.specs.ReadAnswers.{takes, contentAt, recordCount, malformedChain, walkedAs, Stored, headIn, headResult, sheetResult, LiteralsRead}
 use Rattle.sheet.specs.Records.{recordSize}
 use Rattle.sheet.specs.StepLaws.{withChain, sheet-steps, Made, predicate-made, predicate-refused}
-use Rattle.sheet.specs.Sheets.{Sheet, sheet}
+use Rattle.sheet.specs.Sheets.{Sheet, sheet, holdsLimit}
 use Rattle.sheet.specs.RefusalLaws.{OnlyMalformed}
-use Rattle.sheet.specs.WalkLaws.{numbersFrom, walk-malformed, literals-above, literal-at}
-use Rattle.sheet.specs.declared.chain.Walked.{Walked}
-use Rattle.sheet.specs.declared.chain.Walked.the-variants as walked
+use Rattle.sheet.specs.WalkLaws.{numbersFrom, walk-malformed, few-above, literals-above, literal-at}
 use Rattle.sheet.specs.declared.head.Head.{Head}
 use Rattle.sheet.specs.declared.head.HeadResult.{HeadResult}
 use Rattle.sheet.specs.declared.sheet.SheetResult.{SheetResult}
 use Rattle.sheet.specs.declared.sheet.SheetResult.the-variants as sheet-result
 
--- ---- what the code's enums tell of the definitions
+-- ---- what the code's answers tell of the definitions
 
 pub head-is : (r : HeadResult) (x y : Res Head) → r ≡ headResult x → r ≡ headResult y → x ≡ y
 head-is r (ok a) (ok b) e d = cc
@@ -35,14 +33,15 @@ head-is r (ok a) (err b) e d = cc
 head-is r (err a) (ok b) e d = cc
 head-is r (err a) (err b) e d = cc
 
-found-none : (r : Walked) (x : Res (List ℕ)) → OnlyMalformed x → r ≡ walkedAs 0 x → r ≡ walked.Malformed → x ≡ err Malformed
-found-none r (ok ns) h e d = cc
-found-none r (err k) h e d = ap err (h .only k refl)
+-- no walk finds so many literals as stand for a malformed chain
+found-none : (count : ℕ) (x : Res (List ℕ)) → OnlyMalformed x → ((ns : List ℕ) → x ≡ ok ns → length ns ≤ holdsLimit) → count ≡ walkedAs 0 x
+    → count ≡ malformedChain → x ≡ err Malformed
+found-none count (ok ns) h few e d = absurd (omega (arith, few ns refl))
+found-none count (err k) h few e d = ap err (h .only k refl)
 
-found-some : (r : Walked) (x : Res (List ℕ)) (count : ℕ) → r ≡ walkedAs 0 x → r ≡ walked.Literals count
-    → (ns : List ℕ) × (x ≡ ok ns) × (count ≡ length ns)
-found-some r (ok ns) count e d = (ns, refl, (let z : 0 + length ns ≡ count = cc in omega arith))
-found-some r (err k) count e d = ([], cc, cc)
+found-some : (count : ℕ) (x : Res (List ℕ)) → count ≡ walkedAs 0 x → (count ≡ malformedChain → ⊥) → (ns : List ℕ) × (x ≡ ok ns) × (count ≡ length ns)
+found-some count (ok ns) e d = (ns, refl, omega arith)
+found-some count (err k) e d = absurd (d e)
 
 -- ---- the returns
 module _ (most : ℕ) (s numbers : List ℕ) where
@@ -84,16 +83,18 @@ module _ (most : ℕ) (s numbers : List ℕ) where
         pub no-head : {e : ErrorKind} → headIn s ≡ err e → Answered (sheet-result.Err e)
         no-head d = refused (rw (steps, d))
 
-        module _ (h : Head) (is-head : headIn s ≡ ok h) (r : Walked) (walks : r ≡ walkedAs 0 (numbersFrom (layout (h .column)) s 0)) where
-          pub no-chain : r ≡ walked.Malformed → Answered (sheet-result.Err Malformed)
-          no-chain d =
-              let e = found-none r (numbersFrom (layout (h .column)) s 0) (walk-malformed (layout (h .column)) s 0) walks d in
+        module _ (h : Head) (is-head : headIn s ≡ ok h) (count : ℕ) (walks : count ≡ walkedAs 0 (numbersFrom (layout (h .column)) s 0)) where
+          pub no-chain : most ≤ holdsLimit → count ≡ malformedChain → Answered (sheet-result.Err Malformed)
+          no-chain limit d =
+              let l = layout (h .column) in
+              let first : 0 < recordCount s = omega arith in
+              let e = found-none count _ (walk-malformed l s 0) (λ ns f. omega (arith, few-above first (literals-above l s 0 first f))) walks d in
               refused (rw (steps, is-head, e))
 
-          module _ (count : ℕ) (counts : r ≡ walked.Literals count) where
+          module _ (sound : count ≡ malformedChain → ⊥) where
             pub wrong-count : takes (arity (h .operator)) count ≡ false → Answered (sheet-result.Err Malformed)
             wrong-count t =
-                let f = found-some r (numbersFrom (layout (h .column)) s 0) count walks counts in
+                let f = found-some count (numbersFrom (layout (h .column)) s 0) walks sound in
                 let ls = map (contentAt s) (f .0) in
                 let n : count ≡ length ls = f .2 ∙ sym (length-map (f .0) (contentAt s)) in
                 refused (rw (steps, is-head, f .1, predicate-refused (h .operator) ls (rw n at t)))
@@ -119,7 +120,7 @@ module _ (most : ℕ) (s numbers : List ℕ) where
 
               pub sheet-read : takes (arity (h .operator)) count ≡ true → Answered (sheet-result.Ok (record { head = h; count = count }))
               sheet-read t =
-                  let f = found-some r (numbersFrom (layout (h .column)) s 0) count walks counts in
+                  let f = found-some count (numbersFrom (layout (h .column)) s 0) walks sound in
                   let ls = map (contentAt s) (f .0) in
                   let n : count ≡ length ls = f .2 ∙ sym (length-map (f .0) (contentAt s)) in
                   read-so (f .0) (f .1) (f .2) (predicate-made (h .operator) ls (rw n at t))

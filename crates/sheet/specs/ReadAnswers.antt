@@ -1,5 +1,5 @@
--- What the code that reads sheets answers, as the definitions have it: its enums, and the records that the numbers it hands on name. Assumes nothing.
-use Prim.Native.Nat.{ℕ, _+_, _-_, _*_, _/_, _≤_, _<_}
+-- What the code that reads sheets answers, as the definitions have it: its enums, a walk's count, and the records that its numbers name. Assumes nothing.
+use Prim.Native.Nat.{ℕ, suc, _+_, _-_, _*_, _/_, _≤_, _<_}
 use mathlib.Core.Bool.{Bool, true, false}
 use mathlib.Core.List.{List, map, _++_}
 use mathlib.Core.Path.{_≡_}
@@ -15,8 +15,6 @@ use Rattle.expr.specs.Operators.{operators, Arity, none, one, many}
 use Rattle.expr.specs.Predicates.{operatorIn, literalsIn}
 use Rattle.sheet.specs.Records.{headerSize, recordSize, recordAt, lengthIn}
 use Rattle.sheet.specs.Sheets as sheets
-use Rattle.sheet.specs.declared.chain.Walked.{Walked}
-use Rattle.sheet.specs.declared.chain.Walked.the-variants as walked
 use Rattle.sheet.specs.declared.head.Head.{Head}
 use Rattle.sheet.specs.declared.head.HeadResult.{HeadResult}
 use Rattle.sheet.specs.declared.head.HeadResult.the-variants as head-result
@@ -88,10 +86,14 @@ partsAt s sizes numbers count = map (partAt s sizes) (take count numbers)
 
 -- ---- the walk along the chain
 
+-- what stands for a malformed chain: more literals than any sheet has
+abbrev pub malformedChain : ℕ
+malformedChain = suc sheets.holdsLimit
+
 -- so many numbers as were there before, and those found
-abbrev pub walkedAs : ℕ → Res (List ℕ) → Walked
-walkedAs filled (ok ns) = walked.Literals (filled + length ns)
-walkedAs filled (err e) = walked.Malformed
+abbrev pub walkedAs : ℕ → Res (List ℕ) → ℕ
+walkedAs filled (ok ns) = filled + length ns
+walkedAs filled (err e) = malformedChain
 
 -- the numbers found stand behind those that were there before
 pub record Stored (filled : ℕ) (found : Res (List ℕ)) (before after : List ℕ) : Type 0 where

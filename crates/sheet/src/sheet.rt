@@ -1,5 +1,5 @@
 // A whole sheet: its size, its head, and the literals on its chain.
-use crate::chain::Walked;
+use crate::chain::MALFORMED_CHAIN;
 use crate::chain::walk;
 use crate::head::Head;
 use crate::head::HeadResult;
@@ -76,14 +76,13 @@ pub fn read_sheet(s: &[u8], most: usize, numbers: &mut [u16]) -> SheetResult
     };
     let column = head.column;
     let operator = head.operator;
-    match walk(s, column, 0, 0, numbers) {
-        Walked::Malformed => SheetResult::Err(ErrorKind::Malformed),
-        Walked::Literals(count) => {
-            if takes_count(operator, count) {
-                SheetResult::Ok(Sheet { head, count })
-            } else {
-                SheetResult::Err(ErrorKind::Malformed)
-            }
-        }
+    let count = walk(s, column, 0, 0, numbers);
+    if count == MALFORMED_CHAIN {
+        return SheetResult::Err(ErrorKind::Malformed);
+    }
+    if takes_count(operator, count) {
+        SheetResult::Ok(Sheet { head, count })
+    } else {
+        SheetResult::Err(ErrorKind::Malformed)
     }
 }

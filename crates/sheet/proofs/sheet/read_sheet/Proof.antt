@@ -1,4 +1,5 @@
 -- `sheet::read_sheet` meets its contract: size, head, chain and count are read in their order, and the first that fails is the answer. Assumes nothing.
+use native.Mathlib.Omega.{arith}
 use mathlib.Core.Path.{_≡_, sym, _∙_}
 use denote.Ref.{now}
 use borrow.Author.Needs.{needs}
@@ -31,29 +32,29 @@ returns-4 c =
 
 returns-5 : tie.Need-returns-5
 returns-5 c =
-    let w = c .before .before .before .before in
+    let w = c .before .before .before in
     let h = w .before .before in
     let sized = h .before .before .before .before in
     no-chain _ _ _ (sized .before .before .if1 .left) (sized .before .if2 .left) (sized .if3 .left) _ (head-told h) _ (w .walk .ensures .0)
-    (c .enum-told .given .1)
+    (omega (arith, sized)) (c .if4 .taken)
 
 returns-6 : tie.Need-returns-6
 returns-6 c =
-    let k = c .before .before .before in
-    let w = k .before .before .before .before in
+    let sound = c .before .before in
+    let w = sound .before .before .before in
     let h = w .before .before in
     let sized = h .before .before .before .before in
     sheet-read _ _ _ (sized .before .before .if1 .left) (sized .before .if2 .left) (sized .if3 .left) _ (head-told h) _ (w .walk .ensures .0)
-    _ (k .count .given .1) _ (w .walk .ensures .1) (sym (c .before .takes-count .ensures) ∙ c .if4 .taken)
+    (sound .if4 .left) _ (w .walk .ensures .1) (sym (c .before .takes-count .ensures) ∙ c .if5 .taken)
 
 returns-7 : tie.Need-returns-7
 returns-7 c =
-    let k = c .before .before .before in
-    let w = k .before .before .before .before in
+    let sound = c .before .before in
+    let w = sound .before .before .before in
     let h = w .before .before in
     let sized = h .before .before .before .before in
     wrong-count _ _ _ (sized .before .before .if1 .left) (sized .before .if2 .left) (sized .if3 .left) _ (head-told h) _ (w .walk .ensures .0)
-    _ (k .count .given .1) (sym (c .before .takes-count .ensures) ∙ c .if4 .left)
+    (sound .if4 .left) (sym (c .before .takes-count .ensures) ∙ c .if5 .left)
 
 pub read-sheet-spec : {M : Type 1} → statement M
 read-sheet-spec =
@@ -70,10 +71,8 @@ read-sheet-spec =
     returns-4
     (search needs)
     (search needs)
-    (search needs)
-    (search needs)
-    (search needs)
     returns-5
+    (search needs)
     (search needs)
     returns-6
     (search needs)
