@@ -1,4 +1,5 @@
-// A leaf to be projected: the checks before the steps, and the steps by the operator and the column's type.
+// A leaf to be projected: the checks before the steps, and the steps by the operator and the column's type,
+// the choice in the Rust's `project` and `strict_project` (src/spec/transform.rs).
 // An arm that calls returns, so that the answer is written where it belongs and is not copied from arm to arm.
 use crate::answer::Answer;
 use crate::answer::RECORD;

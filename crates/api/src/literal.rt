@@ -1,4 +1,4 @@
-// The transform of one value.
+// The transform of one value: the Rust's `transform_literal` (src/transform/mod.rs), over bytes.
 use answers::answer::Answer;
 use answers::value::transform_value;
 use sheet::records::RECORD_SIZE;

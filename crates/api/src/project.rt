@@ -1,4 +1,4 @@
-// The two projections of a sheet.
+// The two projections of a sheet: the Rust's `Transform::project` and `strict_project` (src/spec/transform.rs), over bytes.
 use answers::answer::Answer;
 use answers::leaf::project_leaf;
 use projection::question::Question;

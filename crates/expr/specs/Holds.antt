@@ -34,7 +34,7 @@ missingMeets (operators.none operators.notNan) = false
 missingMeets (operators.one o) = false
 missingMeets (operators.many o) = false
 
--- of a present value, 01: "NotNull of every present value"; "IsNan holds of nothing, NotNan of every present value"
+-- of a present value, 01: "NotNull of every present value"; "IsNan holds of nothing, NotNan of every present value"; IsNull is the missing value's
 abbrev pub unaryMeets : operators.Unary → Bool
 unaryMeets operators.isNull = false
 unaryMeets operators.notNull = true

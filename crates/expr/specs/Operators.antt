@@ -46,7 +46,7 @@ negated NotStartsWith = StartsWith
 negated In = NotIn
 negated NotIn = In
 
--- ---- by how many literals they take
+-- ---- by how many literals they take: the same operators once more (In is `within`, NotIn `outside`), so that a predicate cannot have a wrong number of literals
 
 pub data Unary : Type 0 where
   isNull notNull isNan notNan : Unary
@@ -57,7 +57,7 @@ pub data Binary : Type 0 where
 pub data SetOperator : Type 0 where
   within outside : SetOperator
 
--- 01: "101–104 take no literal, 201–208 one, 301–302 from 0 to 64"
+-- an operator, told by how many literals it takes. 01: "101–104 take no literal, 201–208 one, 301–302 from 0 to 64"; the 64 is `Sheets.projectLimit`
 pub data Arity : Type 0 where
   none : Unary → Arity
   one : Binary → Arity

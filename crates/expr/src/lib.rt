@@ -1,4 +1,4 @@
-// Operators of column predicates, and the tests of one value against one literal (src/expr/mod.rs, predicate.rs).
+// Operators of column predicates (src/expr/mod.rs), sets of numbers, and the tests of one value against one literal.
 pub mod operator;
 pub mod set;
 pub mod test;

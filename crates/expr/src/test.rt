@@ -1,4 +1,4 @@
-// Tests of a present value against one literal (src/expr/predicate.rs).
+// Tests of a present value against one literal: a part of document 01's holds-test, which the Rust does not have.
 use crate::operator::PredicateOperator;
 use values::order::Ordering;
 use values::order::compare_bytes;

@@ -1,4 +1,4 @@
--- What each enum of the code says, as the definitions have it. Assumes nothing.
+-- What the code of the steps for one number answers, row by row, as the definitions have it. Assumes nothing.
 use Prim.Native.Nat.{ℕ, _≤_}
 use mathlib.Core.Bool.{Bool, true, false, cond}
 use mathlib.Core.List.{List, [], _∷_}

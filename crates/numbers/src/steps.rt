@@ -1,4 +1,4 @@
-// A leaf with one number: the rows of document 01's table for numbers and times.
+// A leaf with one number: the rows of document 01's table for numbers and times (src/spec/transform.rs).
 use expr::operator::PredicateOperator;
 use partition::number::NumberResult;
 use partition::number::transform_literal;

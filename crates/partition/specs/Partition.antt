@@ -31,7 +31,7 @@ truncateNumber ty width v = do
   need (inType ty (truncated width v)) Overflow
   ok (present (truncated width v))
 
--- outside the calendar a Date is 8, a moment 6
+-- 01, 6: "Year or Month of microseconds outside the calendar"; 8: "Year or Month of a Date outside the calendar". Nanoseconds of 64 bits never leave it
 abbrev pub outsideCalendar : TimeUnit → ErrorKind
 outsideCalendar time-unit.Day = Overflow
 outsideCalendar time-unit.Microsecond = DataInvalid
@@ -71,7 +71,7 @@ byTransform ty Hour v = hourNumber ty v
 byTransform ty Void v = ok missing
 byTransform ty Unknown v = err FeatureUnsupported
 
--- a present number: 8 where it is none of the type, since a projection's L−1 or L+1 may leave it
+-- a present number: 8 where it is none of the type, since a projection's L−1 or L+1 may leave it. 01: "boundary before transform"
 unfoldable pub transformNumber : PrimitiveType → Transform → ℤ → Res (Row ℤ)
 transformNumber ty transform v = do
   need (inType ty v) Overflow

@@ -26,7 +26,7 @@ truncateType ty = do
   need (truncates ty) NoResultType
   ok ty
 
--- Year, Month and Day take the types that count days, Hour those that count hours
+-- Year, Month and Day take the types whose values lie in a day, Hour those whose values lie in an hour
 abbrev pub withDays : PrimitiveType → PrimitiveType → Res PrimitiveType
 withDays ty to = do
   units ← perDay (unitOf ty)
@@ -37,7 +37,8 @@ withHours ty to = do
   units ← perHour (unitOf ty)
   ok to
 
--- Identity, Void and Unknown take every type, and keep it
+-- Identity and Void take every type, and keep it. So does Unknown here, where the Rust has String: no answer shows it, since Unknown's 7 comes
+-- next (`Partition.checked`)
 unfoldable pub resultType : Transform → PrimitiveType → Res PrimitiveType
 resultType Identity ty = ok ty
 resultType (Truncate width) ty = truncateType ty

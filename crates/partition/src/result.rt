@@ -38,7 +38,7 @@ fn truncate_type(column: PrimitiveType) -> TypeResult
     }
 }
 
-// The type of what a count of days, or of hours, gives: none for a column that has none.
+// The type `to`, for a column whose values lie in a day; below, in an hour.
 fn type_with_days(column: PrimitiveType, to: PrimitiveType) -> TypeResult
     ensures { λ r. ⌜ r ≡ typeResult (withDays column to) ⌝ }
 {

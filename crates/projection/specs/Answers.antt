@@ -1,4 +1,4 @@
--- What each enum of the code says, as the definitions have it. Assumes nothing.
+-- Operators by how many literals they take, and which question is asked: words that the contracts of `numbers`, `strings` and `answers` share. Assumes nothing.
 use Prim.Native.Nat.{ℕ, _≤_}
 use mathlib.Core.Bool.{Bool, true, false, cond}
 use mathlib.Core.List.{List, [], _∷_}

@@ -19,7 +19,7 @@ byLength count w l whole short long = do
   cond (eqb n w) (ok whole) (cond (ltb n w) (ok short) long)
 
 module _ (T : List ℕ → Res (List ℕ)) (count : List ℕ → Res ℕ) (w : ℕ) where
-  -- 01: "inclusive < and ≤ give ≤ T(L); > and ≥ give ≥ T(L)"; "StartsWith: n = w gives Eq L; n < w gives StartsWith L; n > w gives StartsWith T(L)
+  -- 01: "inclusive < and ≤ give ≤ T(L); > and ≥ give ≥ T(L)"; "Eq, NotEq, In, NotIn as in the table"; "StartsWith: n = w gives Eq L; n < w gives StartsWith L; n > w gives StartsWith T(L)
   -- inclusive"; "NotStartsWith: n = w gives NotEq L; n < w NotStartsWith L; n > w none inclusive"
   abbrev pub inclusiveBytes : Test (List ℕ) → Res (Projected (Test (List ℕ)))
   inclusiveBytes (binary less l) = withLiteral atMost (T l)

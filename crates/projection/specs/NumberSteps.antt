@@ -8,7 +8,7 @@ use Rattle.expr.specs.Predicates.{Test, binary, set}
 use Rattle.projection.specs.Steps.{Projected, some, none, withLiteral, withEach}
 
 module _ (T : ℤ → Res ℤ) where
-  -- 01: "| Leaf | Inclusive |"
+  -- 01's table, its column Inclusive
   abbrev pub inclusiveNumber : Test ℤ → Res (Projected (Test ℤ))
   inclusiveNumber (binary less l) = withLiteral atMost (T (predℤ l))
   inclusiveNumber (binary atMost l) = withLiteral atMost (T l)
@@ -21,7 +21,7 @@ module _ (T : ℤ → Res ℤ) where
   inclusiveNumber (set within ls) = withEach compareNumbers within T ls
   inclusiveNumber (set outside ls) = ok none
 
-  -- 01: "| Leaf | Strict |"
+  -- 01's table, its column Strict
   abbrev pub strictNumber : Test ℤ → Res (Projected (Test ℤ))
   strictNumber (binary less l) = withLiteral less (T l)
   strictNumber (binary atMost l) = withLiteral less (T (sucℤ l))

@@ -7,7 +7,7 @@ use Rattle.values.specs.declared.order.Ordering.{Ordering}
 use Rattle.expr.specs.Operators.{Binary, SetOperator}
 use Rattle.expr.specs.Predicates.{Test, binary, set}
 
--- 01: "0: a predicate exists", "1: no predicate"
+-- 01, answer 0: "a predicate or value exists"; answer 1: "no predicate"
 pub data Projected (P : Type 0) : Type 0 where
   some : P → Projected P
   none : Projected P
@@ -16,7 +16,7 @@ abbrev pub mapped : {P Q : Type 0} → (P → Q) → Projected P → Projected Q
 mapped f (some p) = some (f p)
 mapped f none = none
 
--- T(L), the value of a literal under a transform: steps are asked only of transforms that give each present value a present one
+-- T(L), the value of a literal under a transform. Void alone gives missing for a present value, and no step is asked of Void: the refusal here is never met
 abbrev pub valueIn : {B : Type 0} → Row B → Res B
 valueIn missing = err FeatureUnsupported
 valueIn (present t) = ok t
@@ -30,7 +30,7 @@ withLiteral o value = do
   t ← value
   ok (some (binary o t))
 
--- a set operator with each T(L), ascending and without repeats
+-- a set operator with each T(L), ascending and without repeats. 01: "An empty set stays an empty set"
 abbrev pub withEach : {A B : Type 0} → (B → B → Ordering) → SetOperator → (A → Res B) → List A → Res (Projected (Test B))
 withEach compare o T ls = do
   ts ← each T ls

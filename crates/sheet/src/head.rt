@@ -15,7 +15,7 @@ ghost use lib.ListN.{length};
 ghost use Rattle.sheet.specs.Records.{recordSize};
 ghost use Rattle.sheet.specs.ReadAnswers.{headIn, headResult};
 
-// The two bytes stand apart: side by side they would be copied as one word, which waits for both stores.
+// Operator and column, a byte each, stand apart: side by side they would be copied as one word, which waits for both stores.
 pub struct Head {
     pub operator: PredicateOperator,
     pub transform: Transform,

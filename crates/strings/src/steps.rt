@@ -1,4 +1,4 @@
-// A leaf with one String or Binary under Truncate.
+// A leaf with one String or Binary under Truncate (src/spec/transform.rs).
 use expr::operator::PredicateOperator;
 use partition::bytes::BytesResult;
 use partition::bytes::transform_bytes_literal;

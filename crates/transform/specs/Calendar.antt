@@ -37,7 +37,7 @@ civilYear d = pos (yearAt (shift daysBack d)) -ℤ pos yearsBack
 unfoldable pub civilMonth : ℤ → ℕ
 civilMonth d = monthIn (shift daysBack d)
 
--- years from 1970, months from January 1970
+-- 01: "Year and Month follow the proleptic Gregorian calendar, counted from 1970 and from January 1970"
 unfoldable pub yearOf : ℤ → ℤ
 yearOf d = civilYear d -ℤ pos 1970
 

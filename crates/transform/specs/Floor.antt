@@ -3,7 +3,7 @@ use Prim.Native.Nat.{ℕ, suc, _-_, _/_, _%_}
 use mathlib.Core.Path.{_≡_, refl}
 use lib.IntN.{ℤ, pos, negsuc}
 
--- v over d: -(a + 1) lies in the part after that of -1 by as many whole d as a has
+-- 01: "divide toward minus infinity": the greatest p such that p times d is at most v (`FloorLaws.le-floor`); negsuc a is -(a + 1)
 unfoldable pub floorDiv : ℤ → ℕ → ℤ
 floorDiv (pos a) d = pos (a / d)
 floorDiv (negsuc a) d = negsuc (a / d)

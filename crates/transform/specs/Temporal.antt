@@ -10,7 +10,7 @@ use Rattle.transform.specs.Floor.{floorDiv}
 use Rattle.transform.specs.declared.temporal.TimeUnit.{TimeUnit}
 use Rattle.transform.specs.declared.temporal.TimeUnit.the-variants.{Day, Microsecond, Nanosecond, Neither}
 
--- 01: "Date counts days, Timestamp(tz) microseconds, the Ns types nanoseconds from 1970-01-01"
+-- 01: "Date counts days, Timestamp(tz) microseconds, the Ns types nanoseconds from 1970-01-01"; Time counts from midnight, in no day
 abbrev pub unitOf : PrimitiveType → TimeUnit
 unitOf Int = Neither
 unitOf Long = Neither

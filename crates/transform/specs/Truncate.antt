@@ -19,7 +19,7 @@ truncated width v = v -ℤ pos (floorMod v width)
 unfoldable pub firstCodePoints : ℕ → List ℕ → List ℕ
 firstCodePoints width s = concat (take width (codePoints s))
 
--- the widest that Truncate of a number takes: an Int's width must be an Int itself, a Long's may be any of 32 bits
+-- the widest that Truncate of a number takes. 01, 6: "Truncate of Int with width above 2,147,483,647"; a Long's may be any that a head holds
 abbrev pub widest : PrimitiveType → Res ℕ
 widest Int = ok 2147483647
 widest Long = ok 4294967295

@@ -1,4 +1,4 @@
-// The calendar: a day number hands back its civil year and month, and Iceberg's counts of both, in constant time.
+// The calendar, where the Rust has chrono (src/transform/temporal.rs): a day number hands back its civil year and month, and Iceberg's counts of both.
 ghost use mathlib.Core.Path.{_≡_};
 ghost use Prim.Native.Nat.{_<_};
 ghost use Rattle.transform.specs.Gregorian.{firstDay, yearAt, monthIn};

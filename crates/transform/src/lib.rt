@@ -1,4 +1,4 @@
-// Transforms: from a column's value to its partition value (src/transform/mod.rs).
+// What the transforms are made of: floor division, the calendar, moments and truncation (src/transform/temporal.rs, truncate.rs).
 pub mod calendar;
 pub mod floor;
 pub mod temporal;

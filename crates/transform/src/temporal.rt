@@ -15,7 +15,7 @@ const NANOSECONDS_PER_HOUR: i64 = 3_600_000_000_000;
 
 const NANOSECONDS_PER_DAY: i64 = 86_400_000_000_000;
 
-// What a column counts.
+// What a column counts from 1970-01-01. Time counts from midnight, so it is none of these.
 pub enum TimeUnit {
     Day,
     Microsecond,

@@ -9,7 +9,7 @@ use lib.Signed.{ltZ}
 use Rattle.values.specs.declared.order.Ordering.{Ordering}
 use Rattle.values.specs.declared.order.Ordering.the-variants.{Less, Equal, Greater}
 
--- numbers compare signed
+-- 01: "numbers signed"
 unfoldable pub compareNumbers : ℤ → ℤ → Ordering
 compareNumbers a b = cond (ltZ a b) Less (cond (ltZ b a) Greater Equal)
 

@@ -5,7 +5,7 @@ use mathlib.Core.List.{List, [], _∷_}
 use Rattle.values.specs.declared.error.ErrorKind.{ErrorKind}
 use Rattle.values.specs.declared.error.ErrorKind.the-variants.{Malformed, NotUtf8, NoResultType, DataInvalid, FeatureUnsupported, Overflow}
 
--- document 01's numbers of the refusals
+-- document 01's numbers of the refusals; 2, the buffer's, comes before all of these and stands in `Routines` (`api`)
 abbrev pub errorNumber : ErrorKind → ℕ
 errorNumber Malformed = 3
 errorNumber NotUtf8 = 4

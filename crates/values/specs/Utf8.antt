@@ -51,11 +51,12 @@ isCodePoint c = anyForm c forms
 
 -- ---- a byte string as code points, one after the other
 
--- it is cut before each byte that goes on with no code point
+-- it is cut before each byte that is no UTF8-tail. Whether a byte string begins with a UTF8-tail:
 abbrev pub goesOn : List ℕ → Bool
 goesOn [] = false
 goesOn (b ∷ bs) = continues b
 
+-- b before the parts of what follows it: into the first of them where that begins with a UTF8-tail, else a part of its own
 abbrev pub before : ℕ → Bool → List (List ℕ) → List (List ℕ)
 before b true [] = (b ∷ []) ∷ []
 before b true (c ∷ cs) = (b ∷ c) ∷ cs

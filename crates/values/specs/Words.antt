@@ -8,7 +8,7 @@ use lib.ListN.{length, take, drop}
 use lib.IntN.{ℤ, pos, negsuc}
 use Rattle.values.specs.Types.{half}
 
--- n bytes of x, and the number that bytes are
+-- 01: "All numbers in sheets are little-endian": the lowest n bytes of x, the lowest first, and the number that bytes are
 abbrev pub leBytes : ℕ → ℕ → List ℕ
 leBytes zero x = []
 leBytes (suc n) x = x % 256 ∷ leBytes n (x / 256)

@@ -21,7 +21,7 @@ pub enum TransformResult {
     Err(ErrorKind),
 }
 
-// The transform with a number of document 01's list, other than Truncate.
+// The transform with a number of document 01's list, of width 0.
 fn without_width(number: u8) -> TransformResult
     ensures { λ r. ⌜ r ≡ transformResult (transformOf number 0) ⌝ }
 {

@@ -111,7 +111,7 @@ pub fn is_utf8(s: &[u8]) -> bool
     q.0 == 0
 }
 
-// A code point begins at the first byte, and at each later byte that goes on with none.
+// How many code points s has: one begins at the first byte, and at each later byte that continues none.
 pub fn count_code_points(s: &[u8]) -> usize
     ensures { λ r. ⌜ r ≡ length (codePoints (now (s .entry))) ⌝ }
 {

@@ -13,9 +13,11 @@ use Rattle.expr.specs.declared.operator.PredicateOperator.{PredicateOperator}
 use Rattle.sheet.specs.Records.{recordSize, missingMark}
 use Rattle.sheet.specs.Sheets.{holdsLimit}
 
+-- 01: "Literal: 0–1 next; 2–3 length; 4–63 content, zero after the length"
 abbrev pub literalRecord : ℕ → List ℕ → List ℕ
 literalRecord next bs = leBytes 2 next ++ (leBytes 2 (length bs) ++ (bs ++ replicate (contentSize - length bs) 0))
 
+-- 01: "one literal record with next 0; length 65535 and zero content mark it missing"
 abbrev pub valueRecord : Row (List ℕ) → List ℕ
 valueRecord missing = leBytes 2 0 ++ (leBytes 2 missingMark ++ replicate contentSize 0)
 valueRecord (present bs) = literalRecord 0 bs
