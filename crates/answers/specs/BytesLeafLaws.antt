@@ -8,7 +8,7 @@ use mathlib.Core.Path.{_≡_, refl, sym, ap, _∙_}
 use lib.ListN.{length, take, drop, getD, length-append, length-take}
 use lib.Seq.{take-length}
 use borrow.Author.Tests.{le-leb}
-use Rattle.values.specs.AscendingLaws.{AllOf}
+use Rattle.values.specs.Ascending.{AllOf}
 use Rattle.values.specs.Ascending.{ascending}
 use Rattle.values.specs.Order.{compareBytes}
 use Rattle.values.specs.OutcomeLaws.{ok-not-err}

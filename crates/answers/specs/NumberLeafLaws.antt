@@ -7,7 +7,7 @@ use mathlib.Core.Path.{_≡_, refl, sym, ap, subst, _∙_}
 use lib.IntN.{ℤ, sucℤ}
 use lib.ListN.{length, getD, length-map}
 use borrow.Author.Tests.{eq-eqb}
-use Rattle.values.specs.AscendingLaws.{AllOf}
+use Rattle.values.specs.Ascending.{AllOf}
 use Rattle.values.specs.Order.{compareNumbers}
 use Rattle.values.specs.OutcomeLaws.{ok-inj}
 use Rattle.values.specs.Outcomes.{ok, _>>=_}

@@ -7,7 +7,7 @@ use mathlib.Core.Path.{_≡_, refl, sym, ap, ap₂, subst, _∙_}
 use lib.IntN.{ℤ}
 use lib.ListN.{length, take}
 use Rattle.values.specs.Ascending.{ascending}
-use Rattle.values.specs.AscendingLaws.{AllOf}
+use Rattle.values.specs.Ascending.{AllOf}
 use Rattle.values.specs.Order.{compareNumbers}
 use Rattle.values.specs.Outcomes.{Res, ok, _>>=_}
 use Rattle.values.specs.Types.{layout, inType}

@@ -7,7 +7,7 @@ use mathlib.Core.List.{List, [], _∷_}
 use mathlib.Core.Path.{_≡_, refl, sym, ap, subst, _∙_}
 use lib.ListN.{length}
 use borrow.Author.Tests.{leb-true, le-leb}
-use Rattle.values.specs.AscendingLaws.{AllOf}
+use Rattle.values.specs.Ascending.{AllOf}
 use Rattle.values.specs.Outcomes.{ok, Row, missing, present}
 use Rattle.values.specs.OutcomeLaws.{ok-inj, ok-not-err, passing, passed}
 use Rattle.values.specs.Types.{bytes, layout, typeNumber}

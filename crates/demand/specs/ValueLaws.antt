@@ -6,7 +6,7 @@ use mathlib.Core.Bool.{true}
 use mathlib.Core.List.{List, [], _∷_, map}
 use mathlib.Core.Path.{_≡_, refl, sym, ap, subst, _∙_}
 use lib.ListN.{length, length-map}
-use Rattle.values.specs.AscendingLaws.{AllOf}
+use Rattle.values.specs.Ascending.{AllOf}
 use Rattle.values.specs.Outcomes.{Res, ok, each, Row, missing, present}
 use Rattle.values.specs.OutcomeLaws.{ok-inj, going, gone, each-put, each-length, each-all}
 use Rattle.values.specs.Types.{layout, fits}

@@ -2,7 +2,7 @@
 use mathlib.Core.Bool.{Bool, false, not}
 use Rattle.values.specs.Outcomes.{Res, ok, err}
 use Rattle.values.specs.Order.{isLess, isEqual}
-use Rattle.values.specs.OrderLaws.{flip}
+use Rattle.values.specs.Order.{flip}
 use Rattle.values.specs.declared.order.Ordering.{Ordering}
 use Rattle.expr.specs.Operators.{Arity, none, one, many}
 use Rattle.expr.specs.Operators as operators

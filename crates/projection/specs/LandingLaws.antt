@@ -9,7 +9,7 @@ use lib.IntN.{ℤ}
 use lib.ListN.{length, take}
 use borrow.Author.Tests.{eqb-true}
 use borrow.Table.Elements.{take-le}
-use Rattle.values.specs.AscendingLaws.{AllOf}
+use Rattle.values.specs.Ascending.{AllOf}
 use Rattle.values.specs.Numbered.{find}
 use Rattle.values.specs.Order.{compareNumbers, compareBytes}
 use Rattle.values.specs.Outcomes.{Res, ok, _>>=_, Row, missing, present}

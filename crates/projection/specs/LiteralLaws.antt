@@ -8,7 +8,8 @@ use lib.Dec.{eqb, ltb}
 use lib.IntN.{ℤ, pos, negsuc, sucℤ, predℤ}
 use lib.ListN.{length}
 use lib.Signed.{_<ℤ_}
-use Rattle.values.specs.AscendingLaws.{AllOf, all-ascending, length-ascending}
+use Rattle.values.specs.Ascending.{AllOf}
+use Rattle.values.specs.AscendingLaws.{all-ascending, length-ascending}
 use Rattle.values.specs.IntLaws.{ints}
 use Rattle.values.specs.Order.{compareNumbers, compareBytes}
 use Rattle.values.specs.Outcomes.{Res, ok, err, _>>=_}

@@ -8,7 +8,7 @@ use lib.Dec.{ltb, leb, eqb}
 use lib.ListN.{length, drop}
 use lib.Seq.{getD-drop}
 use borrow.Author.Tests.{ltb-true, leb-true, eqb-true, le-leb}
-use Rattle.values.specs.AscendingLaws.{AllOf}
+use Rattle.values.specs.Ascending.{AllOf}
 use Rattle.values.specs.Numbered.{find}
 use Rattle.values.specs.Outcomes.{Res, ok, each, _>>=_}
 use Rattle.values.specs.OutcomeLaws.{ok-inj, passing, passed, gone, each-cons, each-length, each-all}

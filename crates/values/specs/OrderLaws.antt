@@ -11,16 +11,11 @@ use lib.ListN.{length, drop}
 use lib.Signed.{ltZ, _<ℤ_}
 use borrow.Author.Tests.{ltb-true, ltb-false, lt-ltb, le-ltb, eqb-true, eq-eqb}
 use Rattle.values.specs.IntLaws.{ints, lt-true, lt-false, ltZ-yes, ltZ-not, <ℤ-trans, ≤ℤ-antisym}
-use Rattle.values.specs.Order.{compareNumbers, compareBytes, isLess, isEqual}
+use Rattle.values.specs.Order.{flip, compareNumbers, compareBytes, isLess, isEqual}
 use Rattle.values.specs.declared.order.Ordering.{Ordering}
 use Rattle.values.specs.declared.order.Ordering.the-variants.{Less, Equal, Greater}
 
 -- ---- answers of a comparison
-abbrev pub flip : Ordering → Ordering
-flip Less = Greater
-flip Equal = Equal
-flip Greater = Less
-
 pub flip-flip : (o : Ordering) → flip (flip o) ≡ o
 flip-flip Less = refl
 flip-flip Equal = refl

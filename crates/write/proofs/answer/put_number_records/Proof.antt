@@ -12,7 +12,7 @@ use mir.Syntax.{w64}
 use mir.Val.{toZ, ofZ}
 use denote.Ref.{now}
 use borrow.Author.Needs.{needs}
-use Rattle.values.specs.AscendingLaws.{AllOf}
+use Rattle.values.specs.Ascending.{AllOf}
 use Rattle.values.specs.SignedLaws.{back}
 use Rattle.values.specs.RangeLaws.{in-type-long}
 use Rattle.values.specs.Types.{layout, inType}
