@@ -27,13 +27,16 @@ pub enum NumberResult {
     Err(ErrorKind),
 }
 
+// The widest that Truncate of an Int takes.
+const WIDEST_INT_WIDTH: u32 = 2147483647;
+
 // Truncate of an Int or a Long.
 pub fn truncate_number(column: PrimitiveType, v: i64, width: u32) -> NumberResult
     ensures { λ r. ⌜ r ≡ numberResult (truncateNumber column width v) ⌝ }
 {
     match column {
         PrimitiveType::Int => {
-            if width > 2147483647 {
+            if width > WIDEST_INT_WIDTH {
                 return NumberResult::Err(ErrorKind::DataInvalid);
             }
             match truncate_i64(v, width) {

@@ -78,6 +78,9 @@ fn after_byte(q: Rest, b: u8) -> Rest
     Rest(q.0 - 1, 0x80, 0xBF)
 }
 
+// The highest bit of each byte of a word, which no byte of ASCII has.
+const HIGHEST_BITS: u64 = 0x8080808080808080;
+
 // How many bytes from the start on are ASCII, counted in eights.
 fn ascii_words(s: &[u8]) -> usize
     ensures { λ r. ⌜ r ≤ length (now (s .entry)) ⌝ }
@@ -85,7 +88,7 @@ fn ascii_words(s: &[u8]) -> usize
 {
     let mut i = 0;
     while s.len() - i >= 8 {
-        if u64_at(s, i) & 0x8080808080808080 != 0 {
+        if u64_at(s, i) & HIGHEST_BITS != 0 {
             return i;
         }
         i += 8;
