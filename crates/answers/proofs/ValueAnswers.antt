@@ -20,7 +20,7 @@ use Rattle.values.specs.declared.datatypes.TypeResult.{TypeResult}
 use Rattle.values.specs.declared.datatypes.TypeResult.the-variants as type-result
 use Rattle.values.specs.declared.error.ErrorKind.{ErrorKind}
 use Rattle.values.specs.declared.transform.Transform.{Transform}
-use Rattle.partition.specs.Answers.{numberResult, bytesResult, bytesRow}
+use Rattle.partition.specs.Answers.{numberResult, bytesResult}
 use Rattle.partition.specs.Partition.{numberPartition, bytesPartition}
 use Rattle.partition.specs.ResultType.{resultType}
 use Rattle.partition.specs.declared.bytes.BytesResult.{BytesResult}
@@ -39,7 +39,7 @@ use Rattle.write.specs.RoundTripLaws.{length-literal}
 use Rattle.write.specs.WriteLaws.{length-number}
 use Rattle.write.specs.Written.{valueRecord, literalRecord, numberBytes}
 use Rattle.answers.specs.Answers.{Settled}
-use Rattle.sheet.specs.Contents.{row}
+use Rattle.values.specs.Outcomes.{row}
 use Rattle.answers.specs.Leaves.{NumberColumn}
 use Rattle.answers.specs.Rows.{numberValue, bytesValue}
 use Rattle.answers.specs.SettledLaws.{settled-refused, settled-written}
@@ -108,7 +108,7 @@ pub record BytesTold (column : PrimitiveType) (transform : Transform) (there : B
   pub is : q ≡ bytesResult (bytesPartition column transform (row there s))
 
 pub bytes-told : (column : PrimitiveType) (transform : Transform) (there : Bool) (s : List ℕ) {q : BytesResult}
-    → q ≡ bytesResult (bytesPartition column transform (bytesRow there s)) → BytesTold column transform there s q
+    → q ≡ bytesResult (bytesPartition column transform (row there s)) → BytesTold column transform there s q
 bytes-told column transform true s e = record { is = e }
 bytes-told column transform false s e = record { is = e }
 

@@ -21,7 +21,8 @@ use Rattle.projection.specs.Steps.{some}
 use Rattle.sheet.specs.Records.{value}
 use Rattle.write.specs.Written.{valueRecord, numberBytes}
 use Rattle.answers.specs.Answers.{transformed, transformedRow, asResult}
-use Rattle.sheet.specs.Contents.{row, rowUtf8}
+use Rattle.values.specs.Outcomes.{row}
+use Rattle.sheet.specs.Contents.{rowUtf8}
 use Rattle.answers.specs.Kinds.{numbers, byteStrings}
 use Rattle.sheet.specs.Values.{byLayout, mapRow}
 use Rattle.answers.specs.LeafLaws.{numbers-string, then-on}

@@ -31,7 +31,8 @@ ghost use Rattle.partition.specs.Answers.{numberRow};
 ghost use Rattle.partition.specs.ResultType.{resultType};
 ghost use Rattle.sheet.specs.Records.{recordSize};
 ghost use Rattle.answers.specs.Answers.{transformedRow, asResult, Settled};
-ghost use Rattle.sheet.specs.Contents.{row, rowUtf8};
+ghost use Rattle.values.specs.Outcomes.{row};
+ghost use Rattle.sheet.specs.Contents.{rowUtf8};
 ghost use Rattle.answers.specs.Leaves.{NumberColumn, BytesColumn};
 ghost use Rattle.answers.specs.Rows.{numberRowIn, numberValue, bytesValue, valueAnswer};
 

@@ -16,7 +16,8 @@ use Rattle.values.specs.declared.error.ErrorKind.the-variants.{NotUtf8}
 use Rattle.expr.specs.Operators.{Arity, none, one, many}
 use Rattle.expr.specs.Holds.{Tests, numberTests, bytesTests, missingMeets, unaryMeets, binaryMeets, setMeets}
 use Rattle.sheet.specs.Records.{value}
-use Rattle.sheet.specs.Contents.{allUtf8, row, rowUtf8, numberIn}
+use Rattle.sheet.specs.Contents.{allUtf8, rowUtf8, numberIn}
+use Rattle.values.specs.Outcomes.{row}
 use Rattle.sheet.specs.Values.{byLayout, mapRow}
 use Rattle.meets.specs.declared.held.Held.{Held}
 use Rattle.meets.specs.declared.held.Held.the-variants.{Yes, No, Err}

@@ -23,7 +23,7 @@ ghost use Rattle.expr.specs.Operators.{arity};
 ghost use Rattle.expr.specs.Holds.{bytesTests};
 ghost use Rattle.meets.specs.HeldAnswers.{held, numbersHeld, bytesHeld};
 ghost use Rattle.sheet.specs.Contents.{NumberType};
-ghost use Rattle.sheet.specs.Contents.{row};
+ghost use Rattle.values.specs.Outcomes.{row};
 ghost use Rattle.sheet.specs.ReadAnswers.{Placed, contentsAt};
 ghost use Rattle.meets.specs.HeldAnswers.{heldOf, valueHeld, heldAs};
 

@@ -7,13 +7,14 @@ use lib.ListN.{length}
 use lib.IntN.{ℤ}
 use mir.Syntax.{w32, w64}
 use mir.Val.{SFits, toZ, ofZ}
+use Rattle.values.specs.Outcomes.{row}
 use Rattle.values.specs.Outcomes.{_>>=_, _>>_}
 use Rattle.values.specs.declared.error.ErrorKind.{ErrorKind}
 use Rattle.values.specs.declared.datatypes.PrimitiveType.{PrimitiveType}
 use Rattle.values.specs.declared.datatypes.PrimitiveType.the-variants.{String}
 use Rattle.values.specs.declared.transform.Transform.{Transform}
 use Rattle.partition.specs.Partition.{truncateBytes, transformBytes, checked, partition, bytesPartition}
-use Rattle.partition.specs.Answers.{checkedResult, bytesResult, bytesRow}
+use Rattle.partition.specs.Answers.{checkedResult, bytesResult}
 use Rattle.transform.specs.Truncate.{firstCodePoints}
 use Rattle.partition.specs.declared.bytes.BytesResult.{BytesResult}
 use Rattle.partition.specs.declared.bytes.BytesResult.the-variants as bytes-result
@@ -31,15 +32,15 @@ pub cut-string : (ty : PrimitiveType) (width : ℕ) (s r : List ℕ) → ty ≡ 
 cut-string ty width s r e h = rw (e, h)
 
 module _ (ty : PrimitiveType) (tr : Transform) (here : Bool) (s : List ℕ) (k : Checked) (is : k ≡ checkedResult (checked ty tr)) where
-  pub bytes-refused : (x : ErrorKind) → k ≡ checked-as.Err x → bytes-result.Err x ≡ bytesResult (bytesPartition ty tr (bytesRow here s))
+  pub bytes-refused : (x : ErrorKind) → k ≡ checked-as.Err x → bytes-result.Err x ≡ bytesResult (bytesPartition ty tr (row here s))
   unfolding bytesPartition partition
   bytes-refused x e = rw (checked-err (checked ty tr) (sym is ∙ e))
 
-  pub bytes-missing : k ≡ checked-as.Ok → here ≡ false → bytes-result.Missing ≡ bytesResult (bytesPartition ty tr (bytesRow here s))
+  pub bytes-missing : k ≡ checked-as.Ok → here ≡ false → bytes-result.Missing ≡ bytesResult (bytesPartition ty tr (row here s))
   unfolding bytesPartition partition
   bytes-missing e h = rw (checked-ok (checked ty tr) (sym is ∙ e) .1, h)
 
-  pub bytes-present : (r : BytesResult) → k ≡ checked-as.Ok → here ≡ true → r ≡ bytesResult (transformBytes ty tr s) → r ≡ bytesResult (bytesPartition ty tr (bytesRow here s))
+  pub bytes-present : (r : BytesResult) → k ≡ checked-as.Ok → here ≡ true → r ≡ bytesResult (transformBytes ty tr s) → r ≡ bytesResult (bytesPartition ty tr (row here s))
   unfolding bytesPartition partition
   bytes-present r e h q = rw (checked-ok (checked ty tr) (sym is ∙ e) .1, h) q
 

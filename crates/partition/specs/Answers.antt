@@ -43,7 +43,3 @@ abbrev pub bytesResult : Res (Row (List ℕ)) → BytesResult
 bytesResult (ok missing) = bytes-result.Missing
 bytesResult (ok (present s)) = bytes-result.Prefix (length s)
 bytesResult (err e) = bytes-result.Err e
-
-abbrev pub bytesRow : Bool → List ℕ → Row (List ℕ)
-bytesRow true s = present s
-bytesRow false s = missing

@@ -6,8 +6,9 @@ use values::datatypes::PrimitiveType;
 use values::error::ErrorKind;
 use values::transform::Transform;
 ghost use mathlib.Core.Path.{_≡_};
+ghost use Rattle.values.specs.Outcomes.{row};
 ghost use Rattle.partition.specs.Partition.{truncateBytes, transformBytes, bytesPartition};
-ghost use Rattle.partition.specs.Answers.{bytesResult, bytesRow};
+ghost use Rattle.partition.specs.Answers.{bytesResult};
 
 // What a transform makes of a String or Binary: missing, so many of its first bytes, or a refusal.
 pub enum BytesResult {
@@ -56,7 +57,7 @@ pub fn transform_bytes(
     present: bool,
     s: &[u8],
 ) -> BytesResult
-    ensures { λ r. ⌜ r ≡ bytesResult (bytesPartition column transform (bytesRow present (now (s .entry)))) ⌝ }
+    ensures { λ r. ⌜ r ≡ bytesResult (bytesPartition column transform (row present (now (s .entry)))) ⌝ }
 {
     match check_transform(column, transform) {
         Checked::Err(e) => BytesResult::Err(e),

@@ -15,10 +15,6 @@ abbrev pub allUtf8 : List (List ℕ) → Bool
 allUtf8 [] = true
 allUtf8 (s ∷ ss) = utf8 s && allUtf8 ss
 
-abbrev pub row : {A : Type 0} → Bool → A → Row A
-row true v = present v
-row false v = missing
-
 abbrev pub rowUtf8 : Row (List ℕ) → Bool
 rowUtf8 missing = true
 rowUtf8 (present v) = utf8 v

@@ -12,7 +12,8 @@ ghost use Rattle.values.specs.Types.{layout, sameType};
 ghost use Rattle.values.specs.Words.{leNumber, signed};
 ghost use Rattle.values.specs.declared.datatypes.PrimitiveType.the-variants.{String};
 ghost use Rattle.sheet.specs.ReadAnswers.{Placed, contentsAt};
-ghost use Rattle.sheet.specs.Contents.{allUtf8, row, rowUtf8};
+ghost use Rattle.sheet.specs.Contents.{allUtf8, rowUtf8};
+ghost use Rattle.values.specs.Outcomes.{row};
 
 // Whether the literals in the records that the first count numbers name are UTF-8.
 pub fn literals_utf8(s: &[u8], numbers: &[u16], count: usize, column: PrimitiveType) -> bool

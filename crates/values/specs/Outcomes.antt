@@ -45,3 +45,8 @@ each f (x ∷ xs) = do
 pub data Row (A : Type 0) : Type 0 where
   missing : Row A
   present : A → Row A
+
+-- a value that is there where a flag is set
+abbrev pub row : {A : Type 0} → Bool → A → Row A
+row true v = present v
+row false v = missing

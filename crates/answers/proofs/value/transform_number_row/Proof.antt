@@ -8,7 +8,7 @@ use borrow.Author.Needs.{needs}
 use Rattle.values.specs.SignedLaws.{back}
 use Rattle.partition.specs.Answers.{numberResult}
 use Rattle.partition.specs.Partition.{numberPartition}
-use Rattle.sheet.specs.Contents.{row}
+use Rattle.values.specs.Outcomes.{row}
 use Rattle.answers.specs.Rows.{numberRowIn}
 use Rattle.answers.proofs.ValueAnswers.{number-length, number-lands, number-no-value, missing-number, present-number}
 use Rattle.answers.proofs.value.transform_number_row.Statement.{statement}

@@ -11,7 +11,8 @@ use Rattle.values.specs.Types.{layout, bytes, contentSize, sameType}
 use Rattle.values.specs.declared.datatypes.PrimitiveType.the-variants.{String}
 use Rattle.partition.specs.ResultType.{resultType}
 use Rattle.answers.specs.Answers.{transformedRow, asResult, Settled}
-use Rattle.sheet.specs.Contents.{row, rowUtf8}
+use Rattle.values.specs.Outcomes.{row}
+use Rattle.sheet.specs.Contents.{rowUtf8}
 use Rattle.answers.specs.Rows.{bytesValue}
 use Rattle.answers.specs.SettledLaws.{settled-refused, settled-as}
 use Rattle.answers.specs.ValueLaws.{row-not-utf8, row-no-type, row-of-numbers, row-of-bytes, row-sized}
