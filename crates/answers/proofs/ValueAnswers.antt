@@ -2,21 +2,19 @@
 use Prim.Native.Nat.{ℕ, _≤_}
 use native.Mathlib.Omega.{arith}
 use mathlib.Core.Bool.{Bool, true, false, true≢false}
-use mathlib.Core.List.{List, []}
+use mathlib.Core.List.{List}
 use mathlib.Core.Logic.{_⊎_, inl, inr}
 use mathlib.Core.Path.{_≡_, refl, sym, ap, _∙_}
 use lib.IntN.{ℤ}
 use lib.ListN.{length, take}
 use borrow.Author.Tests.{eqb-true}
 use borrow.Table.Elements.{take-le}
-use Rattle.values.specs.Answers.{typeResult}
 use Rattle.values.specs.Outcomes.{Res, ok, err, Row, missing, present}
 use Rattle.values.specs.Types.{layout, contentSize, fits, inType}
 use Rattle.values.specs.Words.{over}
 use Rattle.values.specs.declared.datatypes.PrimitiveType.{PrimitiveType}
 use Rattle.values.specs.declared.datatypes.PrimitiveType.the-variants.{Int, Long, Date, Time, String, Binary}
 use Rattle.values.specs.declared.datatypes.PrimitiveType.the-variants.{Timestamp, Timestamptz, TimestampNs, TimestamptzNs}
-use Rattle.values.specs.declared.datatypes.TypeResult.{TypeResult}
 use Rattle.values.specs.declared.datatypes.TypeResult.the-variants as type-result
 use Rattle.values.specs.declared.error.ErrorKind.{ErrorKind}
 use Rattle.values.specs.declared.transform.Transform.{Transform}
@@ -28,11 +26,8 @@ use Rattle.partition.specs.declared.bytes.BytesResult.the-variants as bytes-res
 use Rattle.partition.specs.declared.number.NumberResult.{NumberResult}
 use Rattle.partition.specs.declared.number.NumberResult.the-variants as number-result
 use Rattle.projection.specs.LandingLaws.{number-partition-lands}
-use Rattle.sheet.specs.PartLaws.{ValueContent, value-content}
-use Rattle.sheet.specs.ReadAnswers.{valueResult}
 use Rattle.sheet.specs.RecordLaws.{fits-room}
 use Rattle.sheet.specs.Records.{recordSize, value}
-use Rattle.sheet.specs.declared.value.ValueResult.{ValueResult}
 use Rattle.sheet.specs.declared.value.ValueResult.the-variants as value-result
 use Rattle.sets.specs.TransformedLaws.{value-said}
 use Rattle.write.specs.RoundTripLaws.{length-literal}

@@ -1,19 +1,16 @@
 -- A leaf has the literals that its records hold, as many as its operator takes. Assumes nothing.
-use Prim.Native.Nat.{ℕ, zero, suc}
+use Prim.Native.Nat.{ℕ, suc}
 use native.Mathlib.Omega.{arith}
 use mathlib.Core.Bool.{true}
-use mathlib.Core.List.{List, [], _∷_, map}
-use mathlib.Core.Path.{_≡_, refl, ap₂}
+use mathlib.Core.List.{List, [], _∷_}
+use mathlib.Core.Path.{_≡_, refl}
 use lib.ListN.{length, take, length-map}
 use lib.Seq.{length-take-le}
 use borrow.Author.Tests.{eqb-true}
-use Rattle.values.specs.Types.{Layout, number, bytes}
+use Rattle.values.specs.Types.{Layout}
 use Rattle.expr.specs.Operators.{Arity, none, one, many}
 use Rattle.expr.specs.Predicates.{literalsIn}
-use Rattle.sheet.specs.PartLaws.{number-of-content}
-use Rattle.sheet.specs.ReadAnswers.{contentAt, numberAt, LiteralAt, Placed, contentsAt, numbersAt, takes}
-use Rattle.sheet.specs.Records.{lengthIn, recordAt}
-use Rattle.sheet.specs.Contents.{numberIn}
+use Rattle.sheet.specs.ReadAnswers.{contentAt, Placed, contentsAt, takes}
 use Rattle.answers.specs.Leaves.{leafOf}
 
 -- ---- a leaf has its literals, where they are as many as its operator takes

@@ -1,13 +1,13 @@
 -- The two kinds of values that columns have, numbers and byte strings: how they are read and written, transformed and projected. Assumes nothing.
 use Prim.Native.Nat.{ℕ}
-use mathlib.Core.List.{List, map}
+use mathlib.Core.List.{List}
 use lib.IntN.{ℤ}
-use Rattle.values.specs.Outcomes.{Res, Row, missing, present}
-use Rattle.values.specs.Types.{Layout, number, bytes, layout}
+use Rattle.values.specs.Outcomes.{Res, Row}
+use Rattle.values.specs.Types.{layout}
 use Rattle.values.specs.declared.datatypes.PrimitiveType.{PrimitiveType}
 use Rattle.values.specs.declared.transform.Transform.{Transform}
 use Rattle.partition.specs.Partition.{numberPartition, bytesPartition}
-use Rattle.expr.specs.Predicates.{Predicate, unary, test, binary, set}
+use Rattle.expr.specs.Predicates.{Predicate}
 use Rattle.projection.specs.Projection.{projectNumbers, projectBytes}
 use Rattle.projection.specs.Steps.{Projected}
 use Rattle.projection.specs.declared.question.Question.{Question}

@@ -1,7 +1,6 @@
 -- A row to be transformed, as the code has it: its partition value as the bytes of a record. Assumes nothing.
 use Prim.Native.Nat.{ℕ}
-use mathlib.Core.Bool.{Bool}
-use mathlib.Core.List.{List, map}
+use mathlib.Core.List.{List}
 use lib.IntN.{ℤ}
 use Rattle.values.specs.Outcomes.{Res, ok, _>>=_, Row}
 use Rattle.values.specs.Types.{layout}

@@ -6,7 +6,7 @@ use mathlib.Core.Path.{_≡_, refl, ap, _∙_}
 use lib.IntN.{ℤ}
 use lib.ListN.{length, take}
 use borrow.Author.Tests.{eqb-true}
-use Rattle.values.specs.Outcomes.{Res, ok, err, need, _>>=_, _>>_, Row, missing, present}
+use Rattle.values.specs.Outcomes.{Res, ok, err, need, _>>=_, _>>_, Row, present}
 use Rattle.values.specs.OutcomeLaws.{ok-inj, missing-not-present, passing, failing, gone}
 use Rattle.values.specs.Types.{Layout, number, bytes, layout, fits, sameType}
 use Rattle.values.specs.declared.datatypes.PrimitiveType.{PrimitiveType}

@@ -3,7 +3,7 @@ use Prim.Native.Nat.{ℕ}
 use mathlib.Core.List.{List}
 use mathlib.Core.Path.{_≡_}
 use Rattle.values.specs.Numbered.{find}
-use Rattle.values.specs.Outcomes.{ok, err, _>>=_}
+use Rattle.values.specs.Outcomes.{ok, err}
 use Rattle.values.specs.Transforms.{transformOf}
 use Rattle.values.specs.Types.{types}
 use Rattle.values.specs.declared.datatypes.PrimitiveType.{PrimitiveType}

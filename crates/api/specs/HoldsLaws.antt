@@ -4,7 +4,7 @@ use mathlib.Core.Bool.{Bool, true, false}
 use mathlib.Core.List.{List}
 use mathlib.Core.Logic.{_⊎_, inl, inr}
 use mathlib.Core.Path.{_≡_, refl, ap}
-use Rattle.values.specs.Outcomes.{Res, ok, err, errorNumber, _>>=_}
+use Rattle.values.specs.Outcomes.{Res, ok, err, errorNumber}
 use Rattle.values.specs.Types.{layout}
 use Rattle.values.specs.declared.error.ErrorKind.{ErrorKind}
 use Rattle.expr.specs.Operators.{arity}

@@ -3,7 +3,7 @@
 use Prim.Native.Nat.{ℕ}
 use native.Mathlib.Omega.{arith}
 use mathlib.Core.List.{List, [], _∷_}
-use mathlib.Core.Path.{_≡_, refl}
+use mathlib.Core.Path.{refl}
 use lib.IntN.{ℤ, pos, negsuc}
 use Rattle.values.specs.IntLaws.{lt-true}
 use Rattle.values.specs.Order.{compareNumbers}

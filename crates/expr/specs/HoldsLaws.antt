@@ -4,7 +4,6 @@ use mathlib.Core.List.{List}
 use mathlib.Core.Path.{_≡_, refl, sym, ap, _∙_}
 use Rattle.values.specs.Ascending.{elem, ascending}
 use Rattle.values.specs.AscendingLaws.{elem-ascending}
-use Rattle.values.specs.Outcomes.{present}
 use Rattle.values.specs.TestLaws.{not-not}
 use Rattle.values.specs.declared.order.Ordering.the-variants.{Equal}
 use Rattle.expr.specs.Holds.{Tests, setMeets, meets}

@@ -1,15 +1,9 @@
 -- What the code of the holds-test answers on the way, as the definitions have it. Assumes nothing.
-use Prim.Native.Nat.{ℕ, _≤_, _<_}
-use mathlib.Core.Bool.{Bool, true, false, not, _&&_, _||_}
+use Prim.Native.Nat.{ℕ}
+use mathlib.Core.Bool.{Bool, true, false, not, _||_}
 use mathlib.Core.List.{List, [], _∷_, map}
-use mathlib.Core.Logic.{_⊎_}
-use mathlib.Core.Path.{_≡_}
-use lib.IntN.{ℤ, pos}
-use lib.ListN.{length, getD, take}
 use Rattle.values.specs.Outcomes.{Res, ok, err, errorNumber, need, _>>=_, _>>_, Row, missing, present}
-use Rattle.values.specs.Types.{Layout, number, bytes, layout, sameType}
-use Rattle.values.specs.Utf8.{utf8}
-use Rattle.values.specs.Words.{leNumber, signed}
+use Rattle.values.specs.Types.{Layout, number, layout, sameType}
 use Rattle.values.specs.declared.datatypes.PrimitiveType.{PrimitiveType}
 use Rattle.values.specs.declared.datatypes.PrimitiveType.the-variants.{String}
 use Rattle.values.specs.declared.error.ErrorKind.the-variants.{NotUtf8}
@@ -17,7 +11,6 @@ use Rattle.expr.specs.Operators.{Arity, none, one, many}
 use Rattle.expr.specs.Holds.{Tests, numberTests, bytesTests, missingMeets, unaryMeets, binaryMeets, setMeets}
 use Rattle.sheet.specs.Records.{value}
 use Rattle.sheet.specs.Contents.{allUtf8, rowUtf8, numberIn}
-use Rattle.values.specs.Outcomes.{row}
 use Rattle.sheet.specs.Values.{byLayout, mapRow}
 use Rattle.meets.specs.declared.held.Held.{Held}
 use Rattle.meets.specs.declared.held.Held.the-variants.{Yes, No, Err}

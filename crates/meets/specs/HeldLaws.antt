@@ -1,17 +1,13 @@
 -- The holds-test as one answer for a column, an operator's kind, literals and a value: what is read of a leaf and of a row, and the closed form.
 -- Assumes nothing.
-use Prim.Native.Nat.{ℕ, zero, suc}
-use native.Mathlib.Omega.{arith}
-use mathlib.Core.Bool.{Bool, true, false, not, _&&_, _||_, or-true, and-true}
-use mathlib.Core.List.{List, [], _∷_, map}
-use mathlib.Core.Logic.{_⊎_, inl, inr}
-use mathlib.Core.Path.{_≡_, refl, ap, ap₂, _∙_}
+use Prim.Native.Nat.{ℕ}
+use mathlib.Core.Bool.{not, _||_}
+use mathlib.Core.List.{List}
+use mathlib.Core.Logic.{_⊎_, inr}
+use mathlib.Core.Path.{_≡_, refl, ap, _∙_}
 use lib.IntN.{ℤ}
-use lib.ListN.{take}
-use borrow.Author.Tests.{eqb-true}
-use Rattle.values.specs.Outcomes.{Res, ok, err, errorNumber, need, each, _>>=_, _>>_, Row, missing, present}
+use Rattle.values.specs.Outcomes.{ok, Row, missing, present}
 use Rattle.values.specs.Types.{Layout, number, bytes, layout, sameType}
-use Rattle.values.specs.Utf8.{utf8}
 use Rattle.values.specs.Words.{leNumber, signed}
 use Rattle.values.specs.declared.datatypes.PrimitiveType.{PrimitiveType}
 use Rattle.values.specs.declared.datatypes.PrimitiveType.the-variants.{String}
@@ -21,17 +17,12 @@ use Rattle.expr.specs.Holds.{Tests, numberTests, bytesTests, holds}
 use Rattle.expr.specs.Operators.{Arity, none, one, many, arity}
 use Rattle.expr.specs.PredicateLaws.{arity-of}
 use Rattle.expr.specs.Predicates.{Predicate, unary, test, binary, set, arityIn, operatorIn, literalsIn}
-use Rattle.sheet.specs.ReadAnswers.{contentAt, numberAt, LiteralAt}
-use Rattle.sheet.specs.PartLaws.{number-of-content}
-use Rattle.sheet.specs.Records.{lengthIn, recordAt, value}
-use Rattle.sheet.specs.RefusalLaws.{Only, OnlyMalformed, only-ok, only-bind, only-need, value-only, sheet-only}
-use Rattle.sheet.specs.Sheets.{Sheet, sheet, holdsLimit}
-use Rattle.sheet.specs.Values.{readNumber, readBytes, eachLiteral, readRow}
+use Rattle.sheet.specs.RefusalLaws.{Only, only-ok, only-need}
+use Rattle.sheet.specs.Sheets.{Sheet}
+use Rattle.sheet.specs.Values.{readNumber, readBytes}
 use Rattle.meets.specs.HeldAnswers.{held, numbersHeld, bytesHeld}
-use Rattle.sheet.specs.Contents.{numberIn}
 use Rattle.sheet.specs.Contents.{allUtf8, rowUtf8}
-use Rattle.sheet.specs.ReadAnswers.{Placed}
-use Rattle.meets.specs.HeldAnswers.{heldOf, heldAs, heldCode}
+use Rattle.meets.specs.HeldAnswers.{heldOf}
 use Rattle.sheet.specs.Values.{mapRow, mapLiterals}
 use Rattle.sheet.specs.ReadLaws.{map-operator, map-literals, number-literals, number-row, then-need, bytes-literals, bytes-row}
 use Rattle.meets.specs.Tested.{tested, testedSheet}

@@ -9,8 +9,6 @@ use values::order::Ordering;
 use values::order::compare_bytes;
 ghost use mathlib.Core.Path.{_≡_};
 ghost use mathlib.Core.Bool.{true};
-ghost use mathlib.Core.Logic.{_⊎_};
-ghost use lib.ListN.{length};
 ghost use Rattle.values.specs.Ascending.{elem};
 ghost use Rattle.values.specs.Order.{compareNumbers, compareBytes};
 ghost use Rattle.values.specs.Types.{layout};

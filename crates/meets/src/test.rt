@@ -14,7 +14,6 @@ use values::datatypes::PrimitiveType;
 use values::error::ErrorKind;
 ghost use mathlib.Core.Path.{_≡_};
 ghost use mathlib.Core.Bool.{true};
-ghost use mathlib.Core.Logic.{_⊎_};
 ghost use lib.ListN.{length};
 ghost use Rattle.values.specs.Outcomes.{ok};
 ghost use Rattle.values.specs.Types.{layout, fits};

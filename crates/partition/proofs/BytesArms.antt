@@ -1,14 +1,10 @@
 -- What each return of the functions in src/bytes.rt asks: the arm that was taken, and what the call in it gave. Assumes nothing.
-use Prim.Native.Nat.{ℕ, _*_}
-use mathlib.Core.Bool.{Bool, true, false, cond, true≢false}
+use Prim.Native.Nat.{ℕ}
+use mathlib.Core.Bool.{Bool, true, false}
 use mathlib.Core.List.{List}
-use mathlib.Core.Path.{_≡_, refl, sym, ap, _∙_}
+use mathlib.Core.Path.{_≡_, sym, _∙_}
 use lib.ListN.{length}
-use lib.IntN.{ℤ}
-use mir.Syntax.{w32, w64}
-use mir.Val.{SFits, toZ, ofZ}
 use Rattle.values.specs.Outcomes.{row}
-use Rattle.values.specs.Outcomes.{_>>=_, _>>_}
 use Rattle.values.specs.declared.error.ErrorKind.{ErrorKind}
 use Rattle.values.specs.declared.datatypes.PrimitiveType.{PrimitiveType}
 use Rattle.values.specs.declared.datatypes.PrimitiveType.the-variants.{String}

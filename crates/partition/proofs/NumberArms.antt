@@ -1,9 +1,7 @@
 -- What each return of the functions in src/number.rt asks: the arm that was taken, and what the call in it gave. Assumes nothing.
-use Prim.Native.Nat.{ℕ, _*_}
+use Prim.Native.Nat.{ℕ}
 use mathlib.Core.Bool.{Bool, true, false, cond, true≢false}
-use mathlib.Core.List.{List}
 use mathlib.Core.Path.{_≡_, refl, sym, ap, _∙_}
-use lib.ListN.{length}
 use lib.IntN.{ℤ}
 use mir.Syntax.{w32, w64}
 use mir.Val.{SFits, toZ, ofZ}
@@ -20,7 +18,7 @@ use Rattle.transform.specs.declared.temporal.TimeUnit.{TimeUnit}
 use Rattle.transform.specs.declared.temporal.TimeUnit.the-variants as time-unit
 use Rattle.partition.specs.declared.number.DayResult.{DayResult}
 use Rattle.partition.specs.declared.number.DayResult.the-variants as day-result
-use Rattle.values.specs.Outcomes.{Res, ok, err, need, _>>=_, _>>_, present}
+use Rattle.values.specs.Outcomes.{Res, ok, err, need, _>>_, present}
 use Rattle.values.specs.Types.{inType}
 use Rattle.values.specs.declared.error.ErrorKind.{ErrorKind}
 use Rattle.values.specs.declared.error.ErrorKind.the-variants.{NoResultType, Overflow}

@@ -1,15 +1,10 @@
 -- What each return of the functions in src/result.rt asks: the arm that was taken, and what the call in it gave. Assumes nothing.
-use Prim.Native.Nat.{ℕ, _*_}
-use mathlib.Core.Bool.{Bool, true, false, cond, true≢false}
-use mathlib.Core.List.{List}
-use mathlib.Core.Path.{_≡_, refl, sym, ap, _∙_}
-use lib.ListN.{length}
-use lib.IntN.{ℤ}
-use mir.Syntax.{w32, w64}
-use mir.Val.{SFits, toZ, ofZ}
+use Prim.Native.Nat.{ℕ}
+use mathlib.Core.Bool.{Bool, true, false, true≢false}
+use mathlib.Core.Path.{_≡_, refl, sym, _∙_}
 use Rattle.transform.specs.Temporal.{unitOf, perHour, perDay}
 use Rattle.transform.specs.declared.temporal.TimeUnit.{TimeUnit}
-use Rattle.values.specs.Outcomes.{Res, ok, err, _>>=_, _>>_}
+use Rattle.values.specs.Outcomes.{Res, ok, err}
 use Rattle.values.specs.Answers.{typeResult}
 use Rattle.values.specs.declared.error.ErrorKind.{ErrorKind}
 use Rattle.values.specs.declared.error.ErrorKind.the-variants.{NoResultType, FeatureUnsupported}

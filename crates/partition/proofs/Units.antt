@@ -1,16 +1,10 @@
 -- Units: what a unit that was matched on counts. Assumes nothing.
-use Prim.Native.Nat.{ℕ, _*_}
-use mathlib.Core.Bool.{Bool, true, false, cond, true≢false}
-use mathlib.Core.List.{List}
-use mathlib.Core.Path.{_≡_, refl, sym, ap, _∙_}
-use lib.ListN.{length}
-use lib.IntN.{ℤ}
-use mir.Syntax.{w32, w64}
-use mir.Val.{SFits, toZ, ofZ}
+use Prim.Native.Nat.{_*_}
+use mathlib.Core.Path.{_≡_}
 use Rattle.transform.specs.Temporal.{hoursPerDay, microsPerHour, nanosPerHour, perHour, perDay}
 use Rattle.transform.specs.declared.temporal.TimeUnit.{TimeUnit}
 use Rattle.transform.specs.declared.temporal.TimeUnit.the-variants as time-unit
-use Rattle.values.specs.Outcomes.{ok, err, _>>=_, _>>_}
+use Rattle.values.specs.Outcomes.{ok, err}
 use Rattle.values.specs.declared.error.ErrorKind.the-variants.{NoResultType}
 
 module _ {u : TimeUnit} where

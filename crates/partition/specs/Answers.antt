@@ -1,8 +1,6 @@
 -- What each enum of the code says, as the definitions have it. Assumes nothing.
 use Prim.Native.Nat.{ℕ}
-use mathlib.Core.Bool.{Bool, true, false, cond}
 use mathlib.Core.List.{List}
-use lib.Dec.{ltb}
 use lib.ListN.{length}
 use lib.IntN.{ℤ}
 use Rattle.values.specs.Outcomes.{Res, ok, err, Row, missing, present}

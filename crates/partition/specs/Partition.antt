@@ -1,10 +1,10 @@
 -- The transform of a row: its partition value, or a refusal. The order of the lines is the order of the checks. Assumes nothing.
 use Prim.Native.Nat.{ℕ}
 use mathlib.Core.Bool.{Bool, true, false}
-use mathlib.Core.List.{List, [], _∷_}
+use mathlib.Core.List.{List}
 use mathlib.Core.Path.{_≡_, refl}
 use lib.Dec.{ltb, leb}
-use lib.IntN.{ℤ, pos, negsuc}
+use lib.IntN.{ℤ}
 use Rattle.values.specs.Outcomes.{Res, ok, err, need, _>>=_, _>>_, Row, missing, present}
 use Rattle.values.specs.Types.{inType}
 use Rattle.values.specs.declared.error.ErrorKind.{ErrorKind}

@@ -1,20 +1,18 @@
 -- What the transforms of numbers promise to the crates above: the order is kept, only numbers of the column's type have a value, and the value is of
 -- the result type. `BytesPartitionLaws` has those of strings and binaries. Assumes nothing.
-use Prim.Native.Nat.{ℕ, _*_, _≤_, _<_}
+use Prim.Native.Nat.{ℕ, _≤_, _<_}
 use native.Mathlib.Omega.{arith}
 use mathlib.Core.Bool.{true, false, true≢false}
 use mathlib.Core.Path.{_≡_, refl, sym, ap, subst, _∙_}
 use lib.Dec.{ltb, leb}
 use lib.IntN.{ℤ, pos}
 use lib.Signed.{_≤ℤ_}
-use mir.Syntax.{w32, w64}
-use mir.Val.{SFits}
-use Rattle.values.specs.Outcomes.{Res, ok, err, need, _>>=_, _>>_, Row, missing, present}
+use Rattle.values.specs.Outcomes.{Res, ok, err, _>>=_, _>>_, Row, missing, present}
 use Rattle.values.specs.OutcomeLaws.{ok-inj, present-inj, ok-not-err, missing-not-present, passing, failing, passed, gone}
 use Rattle.values.specs.IntLaws.{ints, neg}
 use Rattle.values.specs.RangeLaws.{in-type, in-int, in-type-long, four}
 use Rattle.values.specs.Types.{inType}
-use Rattle.values.specs.declared.error.ErrorKind.the-variants.{NoResultType, DataInvalid, FeatureUnsupported, Overflow}
+use Rattle.values.specs.declared.error.ErrorKind.the-variants.{NoResultType, DataInvalid, Overflow}
 use Rattle.values.specs.declared.datatypes.PrimitiveType.{PrimitiveType}
 use Rattle.values.specs.declared.datatypes.PrimitiveType.the-variants.{Int, Long, Date, Time, Timestamp, Timestamptz, TimestampNs, TimestamptzNs, String, Binary}
 use Rattle.values.specs.declared.transform.Transform.{Transform}
@@ -23,11 +21,11 @@ use Rattle.transform.specs.Floor.{floorDiv}
 use Rattle.transform.specs.FloorLaws.{floor-mono, floor-one, day-fits}
 use Rattle.transform.specs.Calendar.{inCalendar, yearOf, monthOf}
 use Rattle.transform.specs.CalendarLaws.{yearOf-mono, monthOf-mono, yearOf-range, monthOf-range}
-use Rattle.transform.specs.Temporal.{unitOf, hoursPerDay, microsPerHour, nanosPerHour, perDay, perHour, dayOf, hourOf}
+use Rattle.transform.specs.Temporal.{unitOf, perDay, perHour, dayOf, hourOf}
 use Rattle.transform.specs.Truncate.{truncated, widest}
 use Rattle.transform.specs.TruncateLaws.{truncated-mono}
 use Rattle.partition.specs.ResultType.{truncates, truncateType, resultType}
-use Rattle.partition.specs.Partition.{truncateNumber, byCalendar, outsideCalendar, dayNumber, intHour, hourNumber, byTransform, transformNumber}
+use Rattle.partition.specs.Partition.{truncateNumber, byCalendar, outsideCalendar, dayNumber, hourNumber, byTransform, transformNumber}
 use Rattle.transform.specs.declared.temporal.TimeUnit.{TimeUnit}
 use Rattle.transform.specs.declared.temporal.TimeUnit.the-variants as time-unit
 

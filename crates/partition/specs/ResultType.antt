@@ -1,6 +1,6 @@
 -- The type of a transform's values (`Transform::result_type`), or 5. Assumes nothing.
 use mathlib.Core.Bool.{Bool, true, false}
-use Rattle.values.specs.Outcomes.{Res, ok, err, need, _>>=_, _>>_}
+use Rattle.values.specs.Outcomes.{Res, ok, need, _>>=_, _>>_}
 use Rattle.values.specs.declared.error.ErrorKind.the-variants.{NoResultType}
 use Rattle.values.specs.declared.datatypes.PrimitiveType.{PrimitiveType}
 use Rattle.values.specs.declared.datatypes.PrimitiveType.the-variants.{Int, Long, Date, Time, Timestamp, Timestamptz, TimestampNs, TimestamptzNs, String, Binary}

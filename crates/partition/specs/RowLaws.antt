@@ -3,7 +3,7 @@ use Prim.Native.Nat.{ℕ}
 use mathlib.Core.List.{List}
 use mathlib.Core.Path.{_≡_, fun-ext}
 use lib.IntN.{ℤ}
-use Rattle.values.specs.Outcomes.{Res, ok, _>>=_, Row}
+use Rattle.values.specs.Outcomes.{Res, ok, Row}
 use Rattle.values.specs.OutcomeLaws.{gone, going}
 use Rattle.values.specs.declared.datatypes.PrimitiveType.{PrimitiveType}
 use Rattle.values.specs.declared.transform.Transform.{Transform}

@@ -1,11 +1,5 @@
 -- Operators by how many literals they take, and which question is asked: words that the contracts of `numbers`, `strings` and `answers` share. Assumes nothing.
-use Prim.Native.Nat.{ℕ, _≤_}
-use mathlib.Core.Bool.{Bool, true, false, cond}
-use mathlib.Core.List.{List, [], _∷_}
-use mathlib.Core.Path.{_≡_}
-use lib.IntN.{ℤ, sucℤ, predℤ}
-use lib.ListN.{length, take}
-use Rattle.values.specs.Outcomes.{_>>=_}
+use mathlib.Core.Bool.{Bool, true, false}
 use Rattle.expr.specs.Operators as operators
 use Rattle.expr.specs.Operators.{Arity}
 use Rattle.expr.specs.Predicates.{Test, binary}

@@ -12,8 +12,8 @@ use borrow.Table.Elements.{take-le}
 use Rattle.values.specs.Ascending.{AllOf}
 use Rattle.values.specs.Numbered.{find}
 use Rattle.values.specs.Order.{compareNumbers, compareBytes}
-use Rattle.values.specs.Outcomes.{Res, ok, _>>=_, Row, missing, present}
-use Rattle.values.specs.OutcomeLaws.{ok-inj, missing-not-present, gone}
+use Rattle.values.specs.Outcomes.{Res, ok, Row, missing, present}
+use Rattle.values.specs.OutcomeLaws.{ok-inj, missing-not-present}
 use Rattle.values.specs.RangeLaws.{next-in-type}
 use Rattle.values.specs.Transforms.{widthOf}
 use Rattle.values.specs.Types.{types, typeNumber, sameType, inType}

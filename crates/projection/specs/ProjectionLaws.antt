@@ -1,7 +1,7 @@
 -- What a projection that returns a predicate has done: under Identity it is the leaf, and under the other transforms the step's. Assumes nothing.
 use mathlib.Core.Bool.{Bool, true, false, true≢false}
 use mathlib.Core.Path.{_≡_, refl, sym}
-use Rattle.values.specs.Outcomes.{Res, ok, _>>=_, Row, missing, present}
+use Rattle.values.specs.Outcomes.{Res, ok, Row, missing, present}
 use Rattle.values.specs.OutcomeLaws.{ok-inj, ok-not-err, gone}
 use Rattle.values.specs.declared.datatypes.PrimitiveType.{PrimitiveType}
 use Rattle.values.specs.declared.order.Ordering.{Ordering}

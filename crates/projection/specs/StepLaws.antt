@@ -2,7 +2,6 @@
 use mathlib.Core.List.{List, [], _∷_, List·Memᴰ as Isin, List·Memᴰ·head as here, List·Memᴰ·tail as there, List·Memᴰ·not-nil as not-nil}
 use mathlib.Core.Path.{_≡_, refl, sym, ap, subst, _∙_}
 use Rattle.values.specs.Ascending.{ascending}
-use Rattle.values.specs.Ascending.{AllOf}
 use Rattle.values.specs.Outcomes.{Res, ok, err, each, _>>=_}
 use Rattle.values.specs.OutcomeLaws.{ok-inj, each-cons}
 use Rattle.values.specs.declared.order.Ordering.{Ordering}

@@ -3,11 +3,9 @@ use Prim.Native.Nat.{ℕ, zero, suc}
 use native.Mathlib.Omega.{arith}
 use mathlib.Core.Bool.{Bool, true, false, not, _&&_, _||_, or-true, and-true}
 use mathlib.Core.List.{List, [], _∷_, map}
-use mathlib.Core.Path.{_≡_, refl, ap, ap₂, _∙_}
-use lib.IntN.{ℤ}
-use lib.ListN.{take}
+use mathlib.Core.Path.{_≡_, refl, ap₂, _∙_}
 use borrow.Author.Tests.{eqb-true}
-use Rattle.values.specs.Outcomes.{Res, ok, err, need, each, _>>=_, _>>_, Row, missing, present}
+use Rattle.values.specs.Outcomes.{Res, ok, need, each, _>>=_, _>>_, Row, missing, present}
 use Rattle.values.specs.Types.{Layout, number, bytes, sameType}
 use Rattle.values.specs.Utf8.{utf8}
 use Rattle.values.specs.Words.{leNumber, signed}

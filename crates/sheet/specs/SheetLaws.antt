@@ -3,15 +3,15 @@ use Prim.Native.Nat.{ℕ, zero, suc, _+_, _-_, _*_, _/_, _%_, _≤_, _<_}
 use native.Mathlib.Omega.{arith}
 use mathlib.Core.Bool.{Bool, true, false, cond}
 use mathlib.Core.List.{List, [], _∷_}
-use mathlib.Core.Path.{_≡_, refl, sym, ap, subst, _∙_}
+use mathlib.Core.Path.{_≡_, refl, ap, subst, _∙_}
 use lib.Dec.{ltb, leb, eqb}
 use lib.ListN.{length, drop}
 use lib.Seq.{getD-drop}
 use borrow.Author.Tests.{ltb-true, leb-true, eqb-true, le-leb}
 use Rattle.values.specs.Ascending.{AllOf}
 use Rattle.values.specs.Numbered.{find}
-use Rattle.values.specs.Outcomes.{Res, ok, each, _>>=_}
-use Rattle.values.specs.OutcomeLaws.{ok-inj, passing, passed, gone, each-cons, each-length, each-all}
+use Rattle.values.specs.Outcomes.{ok, each, _>>=_}
+use Rattle.values.specs.OutcomeLaws.{ok-inj, passing, passed, gone, each-length, each-all}
 use Rattle.values.specs.Types.{layout, fits}
 use Rattle.values.specs.Words.{word, zeroAt}
 use Rattle.values.specs.WordLaws.{AllBytes}

@@ -1,15 +1,12 @@
 -- Truncate of a number in 64 bits. Assumes nothing.
-use mathlib.Core.Path.{_≡_, refl, sym, ap, _∙_}
-use mathlib.Core.Bool.{Bool, true, false, cond, false≢true}
-use Prim.Native.Nat.{ℕ, _^_, _≤_, _<_}
-use native.Mathlib.Omega.{arith}
-use borrow.Author.Tests.{lt-ltb, le-leb, lt-leb}
-use lib.Dec.{ltb}
+use mathlib.Core.Path.{_≡_}
+use mathlib.Core.Bool.{false}
+use Prim.Native.Nat.{ℕ, _<_}
+use borrow.Author.Tests.{lt-ltb}
 use lib.IntN.{ℤ, negsuc}
-use lib.Signed.{mag, _<ℤ_}
-use mir.Syntax.{w32, w64}
-use mir.Val.{Fits, SFits, toZ, ofZ, hbits}
-use Rattle.values.specs.Outcomes.{_>>_}
+use lib.Signed.{_<ℤ_}
+use mir.Syntax.{w64}
+use mir.Val.{SFits}
 use Rattle.values.specs.Types.{inType}
 use Rattle.values.specs.RangeLaws.{below-range, in-long}
 use Rattle.values.specs.declared.datatypes.PrimitiveType.the-variants.{Long}

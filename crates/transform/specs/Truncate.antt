@@ -3,7 +3,7 @@ use Prim.Native.Nat.{ℕ}
 use mathlib.Core.List.{List, [], _∷_}
 use mathlib.Core.Path.{_≡_, refl}
 use lib.ListN.{take}
-use lib.IntN.{ℤ, pos, negsuc, _-ℤ_}
+use lib.IntN.{ℤ, pos, _-ℤ_}
 use Rattle.values.specs.Outcomes.{Res, ok, err}
 use Rattle.values.specs.Utf8.{codePoints, concat}
 use Rattle.values.specs.declared.error.ErrorKind.the-variants.{NoResultType}

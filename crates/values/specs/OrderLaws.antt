@@ -5,11 +5,10 @@ use mathlib.Core.Bool.{Bool, true, false, cond, true≢false}
 use mathlib.Core.List.{List, [], _∷_, _++_}
 use mathlib.Core.Logic.{_⊎_, inl, inr, ⊎-elim, _↔_}
 use mathlib.Core.Path.{_≡_, refl, sym, ap, ap₂, subst, _∙_}
-use lib.Dec.{ltb, eqb}
+use lib.Dec.{ltb}
 use lib.IntN.{ℤ}
-use lib.ListN.{length, drop}
 use lib.Signed.{ltZ, _<ℤ_}
-use borrow.Author.Tests.{ltb-true, ltb-false, lt-ltb, le-ltb, eqb-true, eq-eqb}
+use borrow.Author.Tests.{ltb-true, ltb-false, lt-ltb, le-ltb}
 use Rattle.values.specs.IntLaws.{ints, lt-true, lt-false, ltZ-yes, ltZ-not, <ℤ-trans, ≤ℤ-antisym}
 use Rattle.values.specs.Order.{flip, compareNumbers, compareBytes, isLess, isEqual}
 use Rattle.values.specs.declared.order.Ordering.{Ordering}

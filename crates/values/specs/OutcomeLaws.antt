@@ -1,11 +1,11 @@
 -- Going forward and back through the lines of a `do` block. Assumes nothing.
-use Prim.Native.Nat.{ℕ, suc}
+use Prim.Native.Nat.{suc}
 use mathlib.Core.Bool.{Bool, true, false, true≢false}
 use mathlib.Core.List.{List, [], _∷_}
 use mathlib.Core.Path.{_≡_, refl, sym, ap, _∙_}
 use lib.ListN.{length}
 use Rattle.values.specs.Ascending.{AllOf}
-use Rattle.values.specs.Outcomes.{Res, ok, err, need, each, _>>=_, _>>_, Row, missing, present}
+use Rattle.values.specs.Outcomes.{Res, ok, err, need, each, _>>=_, _>>_, missing, present}
 use Rattle.values.specs.declared.error.ErrorKind.{ErrorKind}
 
 pub ok-inj : {A : Type 0} {x y : A} → ok x ≡ ok y → x ≡ y

@@ -1,15 +1,11 @@
 -- How a byte string begins. Assumes nothing.
-use Prim.Native.Nat.{ℕ, _<_}
-use native.Mathlib.Omega.{arith}
-use mathlib.Core.Bool.{Bool, true, false, cond, true≢false}
+use Prim.Native.Nat.{ℕ}
+use mathlib.Core.Bool.{true}
 use mathlib.Core.List.{List, [], _∷_, _++_}
-use mathlib.Core.Logic.{_⊎_, inl, inr, ⊎-elim, _↔_}
-use mathlib.Core.Path.{_≡_, refl, sym, ap, ap₂, subst, _∙_}
-use lib.Dec.{ltb, eqb}
-use lib.IntN.{ℤ}
+use mathlib.Core.Path.{_≡_, refl, ap₂, _∙_}
+use lib.Dec.{eqb}
 use lib.ListN.{length, drop}
-use lib.Signed.{ltZ, _<ℤ_}
-use borrow.Author.Tests.{ltb-true, ltb-false, lt-ltb, le-ltb, eqb-true, eq-eqb}
+use borrow.Author.Tests.{eqb-true, eq-eqb}
 use Rattle.values.specs.Order.{startsWith}
 use Rattle.values.specs.TestLaws.{clash, and-both, both-and}
 

@@ -1,6 +1,6 @@
 -- The ranges of the number types: `inRange` and `inType` against `SFits`, the range that code knows of a signed number. Assumes nothing.
 use mathlib.Core.Path.{_≡_, refl}
-use mathlib.Core.Bool.{Bool, true, false, _&&_, false≢true}
+use mathlib.Core.Bool.{true, false, false≢true}
 use mathlib.Core.Logic.{_↔_}
 use Prim.Native.Nat.{ℕ, suc, _+_, _^_, _<_}
 use lib.IntN.{ℤ, pos, negsuc, negℤ, sucℤ, _+ℤ_, +ℤ-one}

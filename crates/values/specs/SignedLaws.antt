@@ -1,17 +1,13 @@
 -- What code leaves of a signed number: a local holds bits, and is read back from them as `toZ w (ofZ w z)`. Assumes nothing.
-use mathlib.Core.Path.{_≡_, refl, sym, ap, subst, _∙_}
-use mathlib.Core.Bool.{Bool, true, false, not, cond}
-use mathlib.Core.Logic.{_⊎_, inl, inr, ⊎-elim, _≢_, _↔_}
-use Prim.Native.Nat.{ℕ, zero, suc, _+_, _*_, _-_, _^_, _≤_, _<_}
-use native.Mathlib.Omega.{arith}
-use native.Mathlib.Nat.{mul-le-mul-right}
-use lib.Dec.{T, ltb, ltb→lt, lt→ltb, leb→le, le→leb, nleb→lt}
-use lib.IntN.{ℤ, pos, negsuc, negℤ, subℕ, _+ℤ_, _-ℤ_, _*ℤ_}
-use lib.Signed.{mag, ltZ, leZ, _≤ℤ_, _<ℤ_, ltZ-no}
+use mathlib.Core.Path.{_≡_, sym, ap, _∙_}
+use mathlib.Core.Bool.{true, false}
+use Prim.Native.Nat.{_-_, _^_, _≤_, _<_}
+use lib.Dec.{T, ltb, ltb→lt}
+use lib.IntN.{ℤ}
+use lib.Signed.{mag, ltZ, leZ, _≤ℤ_, _<ℤ_}
 use mir.Syntax.{Width}
 use mir.Val.{SFits, toZ, ofZ, hbits}
 use mir.Facts.{toZ-ofZ}
-use borrow.Author.Tests.{ltb-true, ltb-false}
 use Rattle.values.specs.IntLaws.{up, dn, lt-true, lt-false, le-true, le-false}
 
 -- an equation for `rw` and `simp`, inner places first: `rw (back f, back g) t`, `rw (back f) at h`

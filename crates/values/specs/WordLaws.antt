@@ -4,19 +4,17 @@ use Prim.Native.Nat.{ℕ, zero, suc, _+_, _-_, _*_, _/_, _%_, _^_, _≤_, _<_}
 use native.Mathlib.Nat.{zero-add, suc-add, add-zero, add-suc, add-assoc, mul-suc, mul-assoc, pow-suc, pow-succ', one-le-pow}
 use native.Mathlib.Nat.{div-one, div-div-eq-div-mul, div-add-mod, mod-lt, mod-eq-of-lt, mul-add-mod-self-left}
 use native.Mathlib.Omega.{arith}
-use mathlib.Core.Bool.{Bool, true, false, cond, _&&_}
+use mathlib.Core.Bool.{Bool, true, false, cond}
 use mathlib.Core.List.{List, [], _∷_, _++_, append-assoc, append-nil}
-use mathlib.Core.Logic.{_↔_}
 use mathlib.Core.Path.{_≡_, refl, sym, ap, _∙_}
 use lib.Dec.{ltb, lit<}
-use lib.IntN.{ℤ, pos, negsuc, negℤ}
+use lib.IntN.{ℤ, pos, negsuc}
 use lib.ListN.{length, getD, take, drop, set, length-append, length-drop, take-append-drop}
 use lib.Seq.{sets, sets-eq, take-at, drop-at, take-nil, take-append-le, drop-append-le, length-take-le, drop-drop}
-use lib.Signed.{mag, leZ, ltZ, _≤ℤ_, _<ℤ_}
-use mir.Syntax.{Width, w32, w64}
-use mir.Val.{SFits, toZ, ofZ, sel, bits, hbits}
+use lib.Signed.{mag}
+use mir.Syntax.{Width}
+use mir.Val.{toZ, ofZ, sel, bits, hbits}
 use borrow.Author.Tests.{ltb-true, ltb-false, lt-ltb, le-ltb}
-use Rattle.values.specs.IntLaws.{ints, neg, le-true, leZ-yes, ltZ-yes}
 use Rattle.values.specs.RangeLaws.{Wide, in-range-mag}
 use Rattle.values.specs.Types.{half, inRange}
 use Rattle.values.specs.Words.{leBytes, leNumber, field, word, over, signed, unsigned, signedBytes}

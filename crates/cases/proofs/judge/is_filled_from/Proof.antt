@@ -1,6 +1,5 @@
 -- `judge::is_filled_from` is safe and ends: each turn looks at one place more. Assumes nothing.
 use Prim.Native.Nat.{_-_, _≤_}
-use native.Mathlib.Omega.{arith}
 use lib.ListN.{length}
 use borrow.Author.Needs.{needs}
 use Rattle.cases.proofs.judge.is_filled_from.Statement.{statement}

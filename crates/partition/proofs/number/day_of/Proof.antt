@@ -1,7 +1,4 @@
 -- `partition::number::day_of` meets its contract. Assumes nothing.
-use mathlib.Core.Path.{_≡_, refl}
-use mir.Syntax.{w32}
-use mir.Val.{SFits}
 use Rattle.values.specs.SignedLaws.{back}
 use Rattle.partition.proofs.NumberArms.{date-fits, days}
 use borrow.Author.Needs.{needs}
