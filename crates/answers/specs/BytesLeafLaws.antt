@@ -21,11 +21,11 @@ use Rattle.values.specs.declared.transform.Transform.the-variants.{Identity, Tr
 use Rattle.partition.specs.ResultType.{resultType}
 use Rattle.transform.specs.Temporal.{unitOf}
 use Rattle.transform.specs.declared.temporal.TimeUnit.the-variants.{Neither}
-use Rattle.expr.specs.Operators.{operatorNumber, SetOperator, within, outside, Arity, none, one, many, arity, operatorOf}
+use Rattle.expr.specs.Operators.{operatorNumber, SetOperator, within, outside, Arity, none, one, many, arity, operatorOf, takesOne, takesMany}
 use Rattle.expr.specs.PredicateLaws.{operator-of}
 use Rattle.expr.specs.Predicates.{test}
 use Rattle.expr.specs.declared.operator.PredicateOperator.{PredicateOperator}
-use Rattle.projection.specs.Answers.{oneTest, takesOne}
+use Rattle.projection.specs.Answers.{oneTest}
 use Rattle.strings.specs.Answers.{bytesLeaf, bytesProjected}
 use Rattle.projection.specs.Projection.{inOrder, through, byTransform, bytesStep}
 use Rattle.projection.specs.Steps.{Projected, some, mapped}
@@ -41,7 +41,7 @@ use Rattle.write.specs.WrittenLaws.{length-records}
 use Rattle.sets.specs.FilledLaws.{parts-all}
 use Rattle.sets.specs.SetLaws.{asSet, bytes-within, bytes-outside, bytes-set-identity}
 use Rattle.sets.specs.Sets.{bytesSet}
-use Rattle.answers.specs.Leaves.{leafOf, takesMany, bytesWritten, byteSteps, bytesLeafAt, oneBytesWritten, hasSteps, keptBy, keeps, ReadyLeaf, BytesColumn}
+use Rattle.answers.specs.Leaves.{leafOf, bytesWritten, byteSteps, bytesLeafAt, oneBytesWritten, hasSteps, keptBy, keeps, ReadyLeaf, BytesColumn}
 use Rattle.answers.specs.OneLiteralLaws.{one-there, one-literal}
 use Rattle.answers.specs.declared.leaf.Leaf.{Leaf}
 

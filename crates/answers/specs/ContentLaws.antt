@@ -8,9 +8,9 @@ use lib.ListN.{length, take, length-map}
 use lib.Seq.{length-take-le}
 use borrow.Author.Tests.{eqb-true}
 use Rattle.values.specs.Types.{Layout}
-use Rattle.expr.specs.Operators.{Arity, none, one, many}
+use Rattle.expr.specs.Operators.{Arity, none, one, many, takes}
 use Rattle.expr.specs.Predicates.{literalsIn}
-use Rattle.sheet.specs.ReadAnswers.{contentAt, Placed, contentsAt, takes}
+use Rattle.sheet.specs.ReadAnswers.{contentAt, Placed, contentsAt}
 use Rattle.answers.specs.Leaves.{leafOf}
 
 -- ---- a leaf has its literals, where they are as many as its operator takes

@@ -13,10 +13,9 @@ use Rattle.values.specs.declared.datatypes.PrimitiveType.{PrimitiveType}
 use Rattle.values.specs.declared.transform.Transform.{Transform}
 use Rattle.values.specs.declared.transform.Transform.the-variants.{Identity, Truncate, Year, Month, Day, Hour, Void, Unknown}
 use Rattle.partition.specs.ResultType.{resultType}
-use Rattle.expr.specs.Operators.{Arity, none, one, many, within, outside, arity}
+use Rattle.expr.specs.Operators.{Arity, none, one, many, within, outside, arity, takesOne, takes}
 use Rattle.expr.specs.Predicates.{Test, Predicate, unary, test, binary, set}
 use Rattle.expr.specs.declared.operator.PredicateOperator.{PredicateOperator}
-pub use Rattle.projection.specs.Answers.{takesOne}
 use Rattle.projection.specs.Lifting.{lifted}
 use Rattle.projection.specs.Projection.{byTransform, numberStep, bytesStep}
 use Rattle.projection.specs.Steps.{Projected, mapped}
@@ -24,7 +23,7 @@ use Rattle.numbers.specs.declared.steps.NumberProjection.{NumberProjection}
 use Rattle.numbers.specs.declared.steps.NumberProjection.the-variants as number-projection
 use Rattle.projection.specs.declared.question.Question.{Question}
 use Rattle.projection.specs.declared.question.Question.the-variants.{Inclusive, Strict}
-use Rattle.sheet.specs.ReadAnswers.{Placed, contentsAt, numbersAt, takes}
+use Rattle.sheet.specs.ReadAnswers.{Placed, contentsAt, numbersAt}
 use Rattle.sheet.specs.Records.{recordSize}
 use Rattle.sheet.specs.Sheets.{projectLimit}
 use Rattle.write.specs.Written.{answerSheet, numberBytes, sheetBuffer}
@@ -37,18 +36,6 @@ leafOf other (none o) ls = unary o
 leafOf other (one o) [] = test (binary o other)
 leafOf other (one o) (l ∷ ls) = test (binary o l)
 leafOf other (many o) ls = test (set o ls)
-
--- ---- operators by how many literals they take
-
-abbrev pub takesNone : Arity → Bool
-takesNone (none o) = true
-takesNone (one o) = false
-takesNone (many o) = false
-
-abbrev pub takesMany : Arity → Bool
-takesMany (none o) = false
-takesMany (one o) = false
-takesMany (many o) = true
 
 -- ---- what the steps give, as bytes
 abbrev pub numbersWritten : PrimitiveType → Res (Projected (Predicate ℤ)) → Res (Projected (List ℕ))

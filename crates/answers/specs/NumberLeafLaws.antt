@@ -19,7 +19,7 @@ use Rattle.values.specs.declared.datatypes.PrimitiveType.{PrimitiveType}
 use Rattle.values.specs.declared.transform.Transform.{Transform}
 use Rattle.values.specs.declared.transform.Transform.the-variants.{Identity}
 use Rattle.partition.specs.ResultType.{resultType}
-use Rattle.expr.specs.Operators.{Binary as BinaryOperator, one, within, arity}
+use Rattle.expr.specs.Operators.{Binary as BinaryOperator, one, within, arity, takesOne}
 use Rattle.expr.specs.Predicates.{Test, Predicate, test, binary, set, operatorIn, literalsIn}
 use Rattle.projection.specs.Answers.{oneTest}
 use Rattle.numbers.specs.Answers.{numberLeaf, OneIn, numberProjected}
@@ -36,7 +36,7 @@ use Rattle.write.specs.WrittenLaws.{length-answer}
 use Rattle.answers.specs.Answers.{Settled}
 use Rattle.sheet.specs.Values.{mapLiterals}
 use Rattle.answers.specs.LeafLaws.{after-checks}
-use Rattle.answers.specs.Leaves.{takesOne, numbersWritten, numberSteps, numberLeafAt, oneWritten, NumbersIn, isIdentity, ReadyLeaf, NumberColumn}
+use Rattle.answers.specs.Leaves.{numbersWritten, numberSteps, numberLeafAt, oneWritten, NumbersIn, isIdentity, ReadyLeaf, NumberColumn}
 use Rattle.answers.specs.OneLiteralLaws.{takes-one, one-literal}
 use Rattle.sheet.specs.ReadLaws.{map-operator, map-literals}
 use Rattle.answers.specs.StepsLaws.{steps-through}

@@ -16,7 +16,7 @@ use Rattle.values.specs.declared.datatypes.PrimitiveType.{PrimitiveType}
 use Rattle.values.specs.declared.error.ErrorKind.{ErrorKind}
 use Rattle.values.specs.declared.transform.Transform.{Transform}
 use Rattle.values.specs.declared.transform.Transform.the-variants.{Identity, Truncate, Year, Month, Day, Hour, Void, Unknown}
-use Rattle.expr.specs.Operators.{Arity, SetOperator, none, one, many, within, outside, arity, operatorOf}
+use Rattle.expr.specs.Operators.{Arity, SetOperator, none, one, many, within, outside, arity, operatorOf, takesMany}
 use Rattle.expr.specs.PredicateLaws.{operator-of}
 use Rattle.expr.specs.Predicates.{Predicate, test, set}
 use Rattle.projection.specs.Projection.{byTransform, numberStep}
@@ -31,7 +31,7 @@ use Rattle.sets.specs.Sets.{numberSet, collected, Filled}
 use Rattle.sets.specs.declared.number.Collected.the-variants as collected-as
 use Rattle.answers.specs.Answers.{Settled}
 use Rattle.answers.specs.CollectedLaws.{found-count, found-error}
-use Rattle.answers.specs.Leaves.{takesMany, numbersWritten, numberSteps, numberLeafAt, liftsFor, hasSteps, keptBy, keeps, ReadyLeaf, NumberColumn}
+use Rattle.answers.specs.Leaves.{numbersWritten, numberSteps, numberLeafAt, liftsFor, hasSteps, keptBy, keeps, ReadyLeaf, NumberColumn}
 use Rattle.answers.specs.NumberLeafLaws.{predicate-written, numbers-inside}
 use Rattle.answers.specs.SettledLaws.{settled-refused}
 use Rattle.answers.specs.declared.answer.Answer.the-variants.{Written, Err}

@@ -8,9 +8,9 @@ use lib.ListN.{length, getD, take}
 use borrow.Author.Tests.{eqb-true}
 use Rattle.values.specs.TestLaws.{clash}
 use Rattle.values.specs.Types.{layout}
-use Rattle.expr.specs.Operators.{Arity, Binary, none, one, many, arity}
-use Rattle.sheet.specs.ReadAnswers.{LiteralAt, takes}
-use Rattle.answers.specs.Leaves.{takesOne, ReadyLeaf}
+use Rattle.expr.specs.Operators.{Arity, Binary, none, one, many, arity, takes, takesOne}
+use Rattle.sheet.specs.ReadAnswers.{LiteralAt}
+use Rattle.answers.specs.Leaves.{ReadyLeaf}
 use Rattle.answers.specs.declared.leaf.Leaf.{Leaf}
 
 pub takes-one : (a : Arity) → takesOne a ≡ true → (o : Binary) × (a ≡ one o)

@@ -17,7 +17,7 @@ use Rattle.values.specs.declared.order.Ordering.{Ordering}
 use Rattle.values.specs.declared.transform.Transform.{Transform}
 use Rattle.values.specs.declared.transform.Transform.the-variants.{Identity, Truncate, Year, Month, Day, Hour, Void, Unknown}
 use Rattle.expr.specs.Operators as operators
-use Rattle.expr.specs.Operators.{Unary, SetOperator, within, outside, Arity, one, many, arity, operatorOf}
+use Rattle.expr.specs.Operators.{Unary, SetOperator, within, outside, Arity, one, many, arity, operatorOf, takesNone, takesMany}
 use Rattle.expr.specs.PredicateLaws.{operator-of}
 use Rattle.expr.specs.Predicates.{Test, Predicate, unary, test, set}
 use Rattle.numbers.specs.BoundaryLaws.{lifted-none}
@@ -32,7 +32,7 @@ use Rattle.sheet.specs.Contents.{numberIn}
 use Rattle.sheet.specs.ReadLaws.{placed-numbers}
 use Rattle.sheet.specs.Values.{byLayout, mapLiterals}
 use Rattle.answers.specs.LeafLaws.{map-leaf}
-use Rattle.answers.specs.Leaves.{leafOf, takesNone, takesMany, numberSteps, byteSteps, steps, numberLeafAt, bytesLeafAt}
+use Rattle.answers.specs.Leaves.{leafOf, numberSteps, byteSteps, steps, numberLeafAt, bytesLeafAt}
 use Rattle.answers.specs.Leaves.{hasSteps, isIdentity, keptBy, keeps, NumberColumn, BytesColumn}
 use Rattle.answers.specs.declared.leaf.Leaf.{Leaf}
 

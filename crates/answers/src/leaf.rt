@@ -20,10 +20,10 @@ ghost use mathlib.Core.List.{[]};
 ghost use mathlib.Core.Path.{_≡_};
 ghost use Rattle.values.specs.Outcomes.{ok};
 ghost use Rattle.partition.specs.ResultType.{resultType};
-ghost use Rattle.expr.specs.Operators.{arity};
+ghost use Rattle.expr.specs.Operators.{arity, takesNone, takesOne, takesMany};
 ghost use Rattle.sheet.specs.ReadAnswers.{contentsAt};
 ghost use Rattle.answers.specs.Answers.{projectedLeaf, Settled};
-ghost use Rattle.answers.specs.Leaves.{leafOf, steps, bytesLeafAt, keeps, takesNone, takesOne, takesMany, Ready, ReadyLeaf};
+ghost use Rattle.answers.specs.Leaves.{leafOf, steps, bytesLeafAt, keeps, Ready, ReadyLeaf};
 
 // What the head says, how many literals there are, what is asked, and the type of the partition values.
 pub struct Leaf {

@@ -19,10 +19,10 @@ ghost use mathlib.Core.Bool.{true};
 ghost use mathlib.Core.Path.{_≡_};
 ghost use Prim.Native.Nat.{_≤_};
 ghost use lib.ListN.{length};
-ghost use Rattle.expr.specs.Operators.{arity};
+ghost use Rattle.expr.specs.Operators.{arity, takesOne, takesMany};
 ghost use Rattle.numbers.specs.Answers.{numberProjected};
 ghost use Rattle.answers.specs.Answers.{Settled};
-ghost use Rattle.answers.specs.Leaves.{numberSteps, numberLeafAt, oneWritten, NumbersIn, keeps, takesOne, takesMany, NumberColumn, ReadyLeaf, liftsFor};
+ghost use Rattle.answers.specs.Leaves.{numberSteps, numberLeafAt, oneWritten, NumbersIn, keeps, NumberColumn, ReadyLeaf, liftsFor};
 ghost use Rattle.write.specs.Written.{sheetBuffer};
 
 // The projection of the one literal, written.

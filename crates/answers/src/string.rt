@@ -16,10 +16,10 @@ ghost use mathlib.Core.Path.{_≡_};
 ghost use Prim.Native.Nat.{_≤_};
 ghost use lib.ListN.{length};
 ghost use Rattle.values.specs.Types.{contentSize};
-ghost use Rattle.expr.specs.Operators.{arity};
+ghost use Rattle.expr.specs.Operators.{arity, takesOne, takesMany};
 ghost use Rattle.strings.specs.Answers.{bytesProjected, NoLonger, OneLiteral};
 ghost use Rattle.answers.specs.Answers.{Settled};
-ghost use Rattle.answers.specs.Leaves.{byteSteps, bytesLeafAt, oneBytesWritten, keeps, takesOne, takesMany, BytesColumn, ReadyLeaf};
+ghost use Rattle.answers.specs.Leaves.{byteSteps, bytesLeafAt, oneBytesWritten, keeps, BytesColumn, ReadyLeaf};
 ghost use Rattle.write.specs.Written.{sheetBuffer};
 
 // The projection of the literal l, written.

@@ -8,11 +8,11 @@ use lib.ListN.{length}
 use Rattle.values.specs.OutcomeLaws.{going}
 use Rattle.values.specs.Outcomes.{err, _>>=_}
 use Rattle.values.specs.declared.error.ErrorKind.{ErrorKind}
-use Rattle.expr.specs.Operators.{none, one, many, arity}
+use Rattle.expr.specs.Operators.{none, one, many, arity, takes}
 use Rattle.expr.specs.PredicateLaws.{arity-of}
 use Rattle.expr.specs.Predicates.{Predicate, unary, test, binary, set, operatorIn, literalsIn}
 use Rattle.projection.specs.declared.question.Question.{Question}
-use Rattle.sheet.specs.ReadAnswers.{contentsAt, takes}
+use Rattle.sheet.specs.ReadAnswers.{contentsAt}
 use Rattle.sheet.specs.ResultLaws.{SheetTold, placed-told}
 use Rattle.sheet.specs.SheetLaws.{sheet-read}
 use Rattle.sheet.specs.Sheets.{sheet, projectLimit}

@@ -1,6 +1,8 @@
 -- The operators of predicates: their numbers, how many literals each takes, and their opposites. Assumes nothing.
 use Prim.Native.Nat.{ℕ}
+use mathlib.Core.Bool.{Bool, true, false}
 use mathlib.Core.List.{List, [], _∷_}
+use lib.Dec.{eqb}
 use Rattle.values.specs.Numbered.{Numbered, _is_}
 use Rattle.expr.specs.declared.operator.PredicateOperator.{PredicateOperator}
 use Rattle.expr.specs.declared.operator.PredicateOperator.the-variants.{IsNull, NotNull, IsNan, NotNan, LessThan, LessThanOrEq, GreaterThan, GreaterThanOrEq, Eq, NotEq, StartsWith, NotStartsWith, In, NotIn}
@@ -78,6 +80,28 @@ arity StartsWith = one startsWith
 arity NotStartsWith = one notStartsWith
 arity In = many within
 arity NotIn = many outside
+
+-- an operator of the arity takes so many literals
+abbrev pub takes : Arity → ℕ → Bool
+takes (none o) n = eqb n 0
+takes (one o) n = eqb n 1
+takes (many o) n = true
+
+-- the Rust's `is_unary`, `is_binary` and `is_set`
+abbrev pub takesNone : Arity → Bool
+takesNone (none o) = true
+takesNone (one o) = false
+takesNone (many o) = false
+
+abbrev pub takesOne : Arity → Bool
+takesOne (none o) = false
+takesOne (one o) = true
+takesOne (many o) = false
+
+abbrev pub takesMany : Arity → Bool
+takesMany (none o) = false
+takesMany (one o) = false
+takesMany (many o) = true
 
 abbrev pub operatorOf : Arity → PredicateOperator
 operatorOf (none isNull) = IsNull

@@ -1,13 +1,15 @@
 -- Operators have one number each and predicates one operator and one list of literals each: what is written of them can be read back.
 -- Assumes nothing.
 use Prim.Native.Nat.{ℕ}
+use mathlib.Core.Bool.{true, false, true≢false, false≢true}
 use mathlib.Core.List.{List, [], _∷_}
 use mathlib.Core.Path.{_≡_, refl, _∙_}
+use lib.Dec.{eqb}
 use Rattle.values.specs.Numbered.{find}
 use Rattle.values.specs.Outcomes.{ok}
 use Rattle.values.specs.OutcomeLaws.{ok-inj, ok-not-err}
 use Rattle.values.specs.TypesLaws.{found-number}
-use Rattle.expr.specs.Operators.{operators, operatorNumber, Arity, none, one, many, arity, operatorOf}
+use Rattle.expr.specs.Operators.{operators, operatorNumber, Arity, none, one, many, arity, takes, takesNone, takesOne, takesMany, operatorOf}
 use Rattle.expr.specs.Operators.{isNull, notNull, isNan, notNan, less, atMost, greater, atLeast, equal, notEqual, startsWith, notStartsWith, within, outside}
 use Rattle.expr.specs.Predicates.{Predicate, unary, test, binary, set, operatorIn, literalsIn, withLiterals, predicate}
 use Rattle.expr.specs.declared.operator.PredicateOperator.{PredicateOperator}
@@ -72,6 +74,28 @@ operator-of StartsWith = refl
 operator-of NotStartsWith = refl
 operator-of In = refl
 operator-of NotIn = refl
+
+-- what takes neither none nor many takes one
+pub takes-one-else : (a : Arity) → takesNone a ≡ false → takesMany a ≡ false → takesOne a ≡ true
+takes-one-else (none o) h k = absurd (true≢false h)
+takes-one-else (one o) h k = refl
+takes-one-else (many o) h k = absurd (true≢false k)
+
+-- how many literals each kind takes
+pub takes-none : (a : Arity) (n : ℕ) → takesNone a ≡ true → eqb n 0 ≡ takes a n
+takes-none (none o) n h = refl
+takes-none (one o) n h = absurd (false≢true h)
+takes-none (many o) n h = absurd (false≢true h)
+
+pub takes-one : (a : Arity) (n : ℕ) → takesOne a ≡ true → eqb n 1 ≡ takes a n
+takes-one (none o) n h = absurd (false≢true h)
+takes-one (one o) n h = refl
+takes-one (many o) n h = absurd (false≢true h)
+
+pub takes-many : (a : Arity) (n : ℕ) → takesMany a ≡ true → true ≡ takes a n
+takes-many (none o) n h = absurd (false≢true h)
+takes-many (one o) n h = absurd (false≢true h)
+takes-many (many o) n h = refl
 
 -- ---- predicates
 module _ {A : Type 0} where

@@ -2,7 +2,7 @@
 use values::error::ErrorKind;
 ghost use mathlib.Core.Path.{_≡_};
 ghost use Rattle.values.specs.Numbered.{find};
-ghost use Rattle.expr.specs.Operators.{operators, operatorNumber, negated};
+ghost use Rattle.expr.specs.Operators.{operators, operatorNumber, negated, arity, takesNone, takesMany};
 ghost use Rattle.expr.specs.Answers.{operatorResult};
 
 pub enum PredicateOperator {
@@ -52,6 +52,30 @@ impl PredicateOperator {
             301 => OperatorResult::Ok(PredicateOperator::In),
             302 => OperatorResult::Ok(PredicateOperator::NotIn),
             _ => OperatorResult::Err(ErrorKind::Malformed),
+        }
+    }
+
+    // Whether the operator takes no literal.
+    pub fn is_unary(self) -> bool
+        ensures { λ r. ⌜ r ≡ takesNone (arity self) ⌝ }
+    {
+        match self {
+            PredicateOperator::IsNull => true,
+            PredicateOperator::NotNull => true,
+            PredicateOperator::IsNan => true,
+            PredicateOperator::NotNan => true,
+            _ => false,
+        }
+    }
+
+    // Whether the operator takes a set of literals.
+    pub fn is_set(self) -> bool
+        ensures { λ r. ⌜ r ≡ takesMany (arity self) ⌝ }
+    {
+        match self {
+            PredicateOperator::In => true,
+            PredicateOperator::NotIn => true,
+            _ => false,
         }
     }
 

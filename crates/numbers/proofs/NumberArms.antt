@@ -25,11 +25,11 @@ use Rattle.partition.specs.declared.number.NumberResult.{NumberResult}
 use Rattle.partition.specs.declared.number.NumberResult.the-variants as number-result
 use Rattle.expr.proofs.Arms.{position, but, agree}
 use Rattle.expr.specs.Operators as operators
-use Rattle.expr.specs.Operators.{Arity, arity}
+use Rattle.expr.specs.Operators.{Arity, arity, takesOne}
 use Rattle.expr.specs.Predicates.{set}
 use Rattle.expr.specs.declared.operator.PredicateOperator.{PredicateOperator}
 use Rattle.expr.specs.declared.operator.PredicateOperator.the-variants.{LessThan, LessThanOrEq, GreaterThan, GreaterThanOrEq, Eq}
-use Rattle.projection.specs.Answers.{oneTest, takesOne}
+use Rattle.projection.specs.Answers.{oneTest}
 use Rattle.numbers.specs.Answers.{numberLeaf, neighbour, inclusiveBoundary, strictBoundary, atBoundary, OneAt, OneIn, numberProjected}
 use Rattle.numbers.specs.BoundaryLaws.{lifted-none, inclusive-at, strict-at}
 use Rattle.projection.specs.Lifting.{lifted, lift}

@@ -10,7 +10,7 @@ use Rattle.values.specs.declared.datatypes.PrimitiveType.the-variants.{Long}
 use Rattle.values.specs.declared.error.ErrorKind.the-variants.{Overflow}
 use Rattle.values.specs.declared.transform.Transform.{Transform}
 use Rattle.expr.specs.Operators as operators
-use Rattle.expr.specs.Operators.{Arity, arity}
+use Rattle.expr.specs.Operators.{Arity, arity, takesOne}
 use Rattle.expr.specs.Predicates.{Test, binary, set}
 use Rattle.expr.specs.declared.operator.PredicateOperator.{PredicateOperator}
 use Rattle.expr.specs.declared.operator.PredicateOperator.the-variants.{LessThan, LessThanOrEq, GreaterThan, GreaterThanOrEq, Eq, NotEq, StartsWith, NotStartsWith}
@@ -21,7 +21,7 @@ use Rattle.numbers.specs.declared.steps.Boundary.the-variants as boundar
 use Rattle.numbers.specs.declared.steps.NumberProjection.{NumberProjection}
 use Rattle.numbers.specs.declared.steps.NumberProjection.the-variants as number-projection
 use Rattle.projection.specs.declared.question.Question.{Question}
-use Rattle.projection.specs.Answers.{oneTest, takesOne}
+use Rattle.projection.specs.Answers.{oneTest}
 
 -- the step of a leaf with one literal; none of another leaf
 abbrev pub numberLeaf : Question → PrimitiveType → Transform → Arity → ℤ → Res (Projected (Test ℤ))

@@ -10,11 +10,11 @@ ghost use mathlib.Core.Bool.{true};
 ghost use mathlib.Core.Path.{_≡_};
 ghost use lib.IntN.{sucℤ, predℤ};
 ghost use Rattle.values.specs.Outcomes.{ok};
-ghost use Rattle.expr.specs.Operators.{arity};
+ghost use Rattle.expr.specs.Operators.{arity, takesOne};
 ghost use Rattle.projection.specs.Lifting.{lifted, lift};
 ghost use Rattle.projection.specs.Projection.{numberUnder};
 ghost use Rattle.projection.specs.Steps.{mapped};
-ghost use Rattle.projection.specs.Answers.{oneTest, takesOne};
+ghost use Rattle.projection.specs.Answers.{oneTest};
 ghost use Rattle.numbers.specs.Answers.{numberLeaf, neighbour, inclusiveBoundary, strictBoundary, atBoundary, numberProjected, OneAt, OneIn};
 ghost use Rattle.projection.specs.declared.question.Question.the-variants.{Inclusive, Strict};
 

@@ -1,5 +1,4 @@
--- Operators by how many literals they take, and which question is asked: words that the contracts of `numbers`, `strings` and `answers` share. Assumes nothing.
-use mathlib.Core.Bool.{Bool, true, false}
+-- A test on one literal, and which question is asked: words that the contracts of `numbers`, `strings` and `answers` share. Assumes nothing.
 use Rattle.expr.specs.Operators as operators
 use Rattle.expr.specs.Operators.{Arity}
 use Rattle.expr.specs.Predicates.{Test, binary}
@@ -12,11 +11,6 @@ abbrev pub oneTest : {A : Type 0} → Arity → A → Projected (Test A)
 oneTest (operators.none o) l = none
 oneTest (operators.one o) l = some (binary o l)
 oneTest (operators.many o) l = none
-
-abbrev pub takesOne : Arity → Bool
-takesOne (operators.none o) = false
-takesOne (operators.one o) = true
-takesOne (operators.many o) = false
 
 -- what each question is answered
 abbrev pub asked : {X : Type 0} → Question → X → X → X

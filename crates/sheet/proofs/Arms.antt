@@ -1,4 +1,4 @@
--- What a match over the column types or the operators returns in each arm, by what the arm is for. Assumes nothing.
+-- What a match over the column types returns in each arm, by what the arm is for. Assumes nothing.
 use Prim.Native.Nat.{ℕ, _+_, _*_, _≤_}
 use mathlib.Core.Bool.{Bool}
 use mathlib.Core.List.{List}
@@ -12,9 +12,7 @@ use Rattle.values.specs.RangeLaws.{widen, four, eight, range-fits}
 use Rattle.values.specs.Types.{layout, number, bytes, contentSize, fits}
 use Rattle.values.specs.Words.{word, signed}
 use Rattle.values.specs.declared.datatypes.PrimitiveType.{PrimitiveType}
-use Rattle.expr.specs.Operators.{arity}
-use Rattle.expr.specs.declared.operator.PredicateOperator.{PredicateOperator}
-use Rattle.sheet.specs.ReadAnswers.{numberAt, InLayout, takes}
+use Rattle.sheet.specs.ReadAnswers.{numberAt, InLayout}
 use Rattle.sheet.specs.PartLaws.{in-record}
 use Rattle.sheet.specs.Records.{headerSize, recordSize}
 
@@ -52,6 +50,3 @@ pub cast-up : {z : ℤ} → SFits w32 z → SFits w64 (toZ w32 (ofZ w32 z))
 cast-up f = rw (back f) (widen f)
 
 pub ruleset numbering = (four-bytes, eight-bytes, no-number, four-ranged, eight-ranged, no-range)
-
-pub takes-arm : {o kind : PredicateOperator} (is : o ≡ kind) {r : Bool} (n : ℕ) → r ≡ takes (arity kind) n → r ≡ takes (arity o) n
-takes-arm is n e = rw is e

@@ -13,8 +13,8 @@ use Rattle.values.specs.Outcomes.{Res, ok, err, _>>=_}
 use Rattle.values.specs.Types.{layout}
 use Rattle.values.specs.declared.error.ErrorKind.{ErrorKind}
 use Rattle.values.specs.declared.error.ErrorKind.the-variants.{Malformed}
-use Rattle.expr.specs.Operators.{arity}
-use Rattle.sheet.specs.ReadAnswers.{takes, contentAt, recordCount, malformedChain, walkedAs, Stored, headIn, headResult, sheetResult, LiteralsRead}
+use Rattle.expr.specs.Operators.{arity, takes}
+use Rattle.sheet.specs.ReadAnswers.{contentAt, recordCount, malformedChain, walkedAs, Stored, headIn, headResult, sheetResult, LiteralsRead}
 use Rattle.sheet.specs.Records.{recordSize}
 use Rattle.sheet.specs.StepLaws.{withChain, sheet-steps, Made, predicate-made, predicate-refused}
 use Rattle.sheet.specs.Sheets.{Sheet, sheet, holdsLimit}

@@ -3,7 +3,6 @@ use Prim.Native.Nat.{ℕ, suc, _+_, _-_, _*_, _/_, _≤_, _<_}
 use mathlib.Core.Bool.{Bool, true, false}
 use mathlib.Core.List.{List, map, _++_}
 use mathlib.Core.Path.{_≡_}
-use lib.Dec.{eqb}
 use lib.IntN.{ℤ, pos}
 use lib.ListN.{length, getD, take}
 use Rattle.values.specs.Numbered.{find}
@@ -11,7 +10,7 @@ use Rattle.values.specs.Outcomes.{Res, ok, err, need, _>>=_, _>>_, Row, missing
 use Rattle.values.specs.Types.{Layout, number, bytes, layout, contentSize, fits, inRange}
 use Rattle.values.specs.Words.{leNumber, field, word, zeroAt, signed}
 use Rattle.values.specs.declared.error.ErrorKind.the-variants.{Malformed}
-use Rattle.expr.specs.Operators.{operators, Arity, none, one, many}
+use Rattle.expr.specs.Operators.{operators}
 use Rattle.expr.specs.Predicates.{operatorIn, literalsIn}
 use Rattle.sheet.specs.Records.{headerSize, recordSize, recordAt, lengthIn}
 use Rattle.sheet.specs.Sheets as sheets
@@ -116,12 +115,6 @@ headResult (ok h) = head-result.Ok h
 headResult (err e) = head-result.Err e
 
 -- ---- a sheet
-
--- an operator of the arity takes so many literals
-abbrev pub takes : Arity → ℕ → Bool
-takes (none o) n = eqb n 0
-takes (one o) n = eqb n 1
-takes (many o) n = true
 
 abbrev pub sheetRead : sheets.Sheet → Sheet
 sheetRead x = record {

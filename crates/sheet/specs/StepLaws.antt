@@ -13,11 +13,11 @@ use Rattle.values.specs.TestLaws.{clash}
 use Rattle.values.specs.Types.{Layout, layout}
 use Rattle.values.specs.Words.{word, zeroAt}
 use Rattle.values.specs.declared.error.ErrorKind.the-variants.{Malformed}
-use Rattle.expr.specs.Operators.{Arity, none, one, many, arity, operators, operatorOf}
+use Rattle.expr.specs.Operators.{Arity, none, one, many, arity, operators, operatorOf, takes}
 use Rattle.expr.specs.PredicateLaws.{operator-of}
 use Rattle.expr.specs.Predicates.{Predicate, unary, test, binary, set, operatorIn, literalsIn, withLiterals, predicate}
 use Rattle.expr.specs.declared.operator.PredicateOperator.{PredicateOperator}
-use Rattle.sheet.specs.ReadAnswers.{takes, recordCount, contentAt, headIn}
+use Rattle.sheet.specs.ReadAnswers.{recordCount, contentAt, headIn}
 use Rattle.sheet.specs.PartLaws.{next-here}
 use Rattle.sheet.specs.Records.{recordSize, records, nextIn, content}
 use Rattle.sheet.specs.Sheets.{chain, head, Sheet, sheet}

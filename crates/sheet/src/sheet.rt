@@ -11,9 +11,9 @@ ghost use mathlib.Core.Path.{_≡_};
 ghost use Prim.Native.Nat.{_≤_};
 ghost use lib.ListN.{length};
 ghost use Rattle.values.specs.Outcomes.{ok};
-ghost use Rattle.expr.specs.Operators.{arity};
+ghost use Rattle.expr.specs.Operators.{arity, takes};
 ghost use Rattle.sheet.specs.Sheets as sheets;
-ghost use Rattle.sheet.specs.ReadAnswers.{takes, sheetResult, LiteralsRead};
+ghost use Rattle.sheet.specs.ReadAnswers.{sheetResult, LiteralsRead};
 
 // The most literals of a sheet to be projected, and of one to be tested.
 pub const PROJECT_LIMIT: usize = 64;
@@ -35,22 +35,13 @@ pub enum SheetResult {
 fn takes_count(operator: PredicateOperator, count: usize) -> bool
     ensures { λ r. ⌜ r ≡ takes (arity operator) count ⌝ }
 {
-    match operator {
-        PredicateOperator::IsNull => count == 0,
-        PredicateOperator::NotNull => count == 0,
-        PredicateOperator::IsNan => count == 0,
-        PredicateOperator::NotNan => count == 0,
-        PredicateOperator::LessThan => count == 1,
-        PredicateOperator::LessThanOrEq => count == 1,
-        PredicateOperator::GreaterThan => count == 1,
-        PredicateOperator::GreaterThanOrEq => count == 1,
-        PredicateOperator::Eq => count == 1,
-        PredicateOperator::NotEq => count == 1,
-        PredicateOperator::StartsWith => count == 1,
-        PredicateOperator::NotStartsWith => count == 1,
-        PredicateOperator::In => true,
-        PredicateOperator::NotIn => true,
+    if operator.is_unary() {
+        return count == 0;
     }
+    if operator.is_set() {
+        return true;
+    }
+    count == 1
 }
 
 // A sheet with at most so many literals; the numbers of their records go into `numbers`, in the order of the chain.

@@ -23,11 +23,11 @@ use Rattle.partition.specs.declared.bytes.BytesResult.{BytesResult}
 use Rattle.partition.specs.declared.bytes.BytesResult.the-variants as bytes-result
 use Rattle.expr.proofs.Arms.{position, agree}
 use Rattle.expr.specs.Operators as operators
-use Rattle.expr.specs.Operators.{Arity, arity}
+use Rattle.expr.specs.Operators.{Arity, arity, takesOne}
 use Rattle.expr.specs.Predicates.{Test, binary}
 use Rattle.expr.specs.declared.operator.PredicateOperator.{PredicateOperator}
 use Rattle.expr.specs.declared.operator.PredicateOperator.the-variants.{StartsWith, NotStartsWith}
-use Rattle.projection.specs.Answers.{oneTest, takesOne, asked}
+use Rattle.projection.specs.Answers.{oneTest, asked}
 use Rattle.strings.specs.Answers.{bytesLeaf, bytesProjected, truncatedLeaf, startsLeaf, notStartsLeaf}
 use Rattle.projection.specs.Projection.{lengthOf, bytesUnder}
 use Rattle.projection.specs.Steps.{Projected, some, none, valueIn}

@@ -9,7 +9,7 @@ use Rattle.values.specs.declared.datatypes.PrimitiveType.{PrimitiveType}
 use Rattle.values.specs.declared.transform.Transform.{Transform}
 use Rattle.values.specs.declared.transform.Transform.the-variants.{Truncate}
 use Rattle.expr.specs.Operators as operators
-use Rattle.expr.specs.Operators.{Arity, arity}
+use Rattle.expr.specs.Operators.{Arity, arity, takesOne}
 use Rattle.expr.specs.Predicates.{Test, binary}
 use Rattle.projection.specs.Projection.{bytesStep, bytesUnder, strictLength}
 use Rattle.projection.specs.ByteSteps.{byLength}
@@ -17,7 +17,7 @@ use Rattle.projection.specs.Steps.{Projected, some, none}
 use Rattle.strings.specs.declared.steps.BytesProjection.{BytesProjection}
 use Rattle.strings.specs.declared.steps.BytesProjection.the-variants as bytes-projection
 use Rattle.projection.specs.declared.question.Question.{Question}
-use Rattle.projection.specs.Answers.{oneTest, takesOne, asked}
+use Rattle.projection.specs.Answers.{oneTest, asked}
 
 abbrev pub bytesLeaf : Question → PrimitiveType → Transform → Arity → List ℕ → Res (Projected (Test (List ℕ)))
 bytesLeaf question column transform (operators.none o) l = ok none

@@ -11,9 +11,8 @@ ghost use mathlib.Core.Bool.{true};
 ghost use mathlib.Core.Path.{_≡_};
 ghost use lib.ListN.{length};
 ghost use Rattle.values.specs.declared.transform.Transform.the-variants.{Truncate};
-ghost use Rattle.expr.specs.Operators.{arity};
+ghost use Rattle.expr.specs.Operators.{arity, takesOne};
 ghost use Rattle.projection.specs.Projection.{lengthOf};
-ghost use Rattle.projection.specs.Answers.{takesOne};
 ghost use Rattle.strings.specs.Answers.{bytesLeaf, bytesProjected, NoLonger, OneLiteral, truncatedLeaf, startsLeaf, notStartsLeaf};
 ghost use Rattle.projection.specs.declared.question.Question.the-variants.{Inclusive, Strict};
 

@@ -1,7 +1,7 @@
--- The numbers of types and of transforms: each is found by its own number, and only by that; and a type of numbers has bytes. Assumes nothing.
+-- The numbers of types and of transforms: each is found by its own number, and only by that; and the layouts of types. Assumes nothing.
 use Prim.Native.Nat.{ℕ, _<_}
 use native.Mathlib.Omega.{arith}
-use mathlib.Core.Bool.{Bool, true, false, cond}
+use mathlib.Core.Bool.{Bool, true, false, cond, true≢false, false≢true}
 use mathlib.Core.List.{List, [], _∷_}
 use mathlib.Core.Logic.{_⊎_, inl, inr}
 use mathlib.Core.Path.{_≡_, refl, sym, _∙_}
@@ -10,7 +10,7 @@ use borrow.Author.Tests.{eqb-true, eq-eqb, ne-eqb}
 use Rattle.values.specs.Numbered.{Numbered, _is_, find}
 use Rattle.values.specs.Outcomes.{Res, ok, err, need, _>>=_, _>>_}
 use Rattle.values.specs.Transforms.{transforms, widthOf, transformOf}
-use Rattle.values.specs.Types.{types, typeNumber, Layout, number, bytes, layout}
+use Rattle.values.specs.Types.{types, typeNumber, contentSize, Layout, number, bytes, isBytes, layout}
 use Rattle.values.specs.declared.datatypes.PrimitiveType.{PrimitiveType}
 use Rattle.values.specs.declared.datatypes.PrimitiveType.the-variants.{Int, Long, Date, Time, Timestamp, Timestamptz, TimestampNs, TimestamptzNs, String, Binary}
 use Rattle.values.specs.declared.error.ErrorKind.the-variants.{Malformed}
@@ -135,3 +135,20 @@ sized TimestampNs = omega arith
 sized TimestamptzNs = omega arith
 sized String = tt
 sized Binary = tt
+
+-- ---- layouts
+pub bytes-layout : (t : PrimitiveType) → isBytes (layout t) ≡ true → layout t ≡ bytes contentSize
+bytes-layout String h = refl
+bytes-layout Binary h = refl
+bytes-layout Int h = absurd (false≢true h)
+bytes-layout Long h = absurd (false≢true h)
+bytes-layout Date h = absurd (false≢true h)
+bytes-layout Time h = absurd (false≢true h)
+bytes-layout Timestamp h = absurd (false≢true h)
+bytes-layout Timestamptz h = absurd (false≢true h)
+bytes-layout TimestampNs h = absurd (false≢true h)
+bytes-layout TimestamptzNs h = absurd (false≢true h)
+
+pub number-layout : (l : Layout) → isBytes l ≡ false → (n : ℕ) × (l ≡ number n)
+number-layout (number n) h = (n, refl)
+number-layout (bytes n) h = absurd (true≢false h)

@@ -2,7 +2,7 @@
 use crate::error::ErrorKind;
 ghost use mathlib.Core.Path.{_≡_};
 ghost use Rattle.values.specs.Numbered.{find};
-ghost use Rattle.values.specs.Types.{types, typeNumber, inRange, inType};
+ghost use Rattle.values.specs.Types.{types, typeNumber, layout, isBytes, inRange, inType};
 ghost use Rattle.values.specs.Answers.{typeResult};
 
 pub enum PrimitiveType {
@@ -68,6 +68,24 @@ impl PrimitiveType {
             PrimitiveType::TimestamptzNs => 8,
             PrimitiveType::String => 9,
             PrimitiveType::Binary => 10,
+        }
+    }
+
+    // Whether a value is a byte string, and not a number.
+    pub fn is_bytes(self) -> bool
+        ensures { λ r. ⌜ r ≡ isBytes (layout self) ⌝ }
+    {
+        match self {
+            PrimitiveType::Int => false,
+            PrimitiveType::Long => false,
+            PrimitiveType::Date => false,
+            PrimitiveType::Time => false,
+            PrimitiveType::Timestamp => false,
+            PrimitiveType::Timestamptz => false,
+            PrimitiveType::TimestampNs => false,
+            PrimitiveType::TimestamptzNs => false,
+            PrimitiveType::String => true,
+            PrimitiveType::Binary => true,
         }
     }
 

@@ -3,10 +3,9 @@ use mathlib.Core.Bool.{true}
 use mathlib.Core.List.{[], _∷_}
 use mathlib.Core.Path.{refl}
 use borrow.Author.Needs.{needs}
-use Rattle.expr.specs.Operators.{arity}
+use Rattle.expr.specs.Operators.{arity, takesOne}
 use Rattle.expr.specs.declared.operator.PredicateOperator.the-variants.{IsNull, NotNull, IsNan, NotNan, In, NotIn}
 use Rattle.expr.proofs.Arms.{but, agree}
-use Rattle.answers.specs.Leaves.{takesOne}
 use Rattle.answers.proofs.leaf.project_known.Statement.{statement}
 use Rattle.answers.proofs.leaf.project_known.Tie as tie
 
