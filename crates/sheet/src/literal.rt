@@ -22,12 +22,15 @@ pub fn literal_ok(s: &[u8], k: usize, column: PrimitiveType) -> bool
     ensures { λ r. ⌜ r ≡ isOk (content (layout column) (recordAt (now (s .entry)) k)) ⌝ }
 {
     let at = RECORD_SIZE * k;
-    let n = u16_at(s, at + 2) as usize;
-    if length_fits(column, n) {
-        zeros(s, at + HEADER_SIZE + n, CONTENT_SIZE - n)
-    } else {
-        false
+    let n = u16_at(&*s, at + 2) as usize;
+    if !length_fits(column, n) {
+        return false;
     }
+    // Most numbers have eight bytes: a length that is known is tested without a loop.
+    if n == 8 {
+        return zeros(&*s, at + HEADER_SIZE + 8, CONTENT_SIZE - 8);
+    }
+    zeros(&*s, at + HEADER_SIZE + n, CONTENT_SIZE - n)
 }
 
 // The content of record k, a part of the sheet.
@@ -37,7 +40,7 @@ pub fn content_of<'a>(s: &'a [u8], k: usize) -> &'a [u8]
     ensures { λ r. ⌜ now r ≡ contentAt (now (s .entry)) k ⌝ }
 {
     let at = RECORD_SIZE * k;
-    let n = u16_at(s, at + 2) as usize;
+    let n = u16_at(&*s, at + 2) as usize;
     let from = at + HEADER_SIZE;
     let to = from + n;
     &s[from..to]
@@ -62,14 +65,14 @@ pub fn number_of(s: &[u8], k: usize, column: PrimitiveType) -> i64
 {
     let at = RECORD_SIZE * k + HEADER_SIZE;
     match column {
-        PrimitiveType::Int => i32_at(s, at) as i64,
-        PrimitiveType::Long => i64_at(s, at),
-        PrimitiveType::Date => i32_at(s, at) as i64,
-        PrimitiveType::Time => i64_at(s, at),
-        PrimitiveType::Timestamp => i64_at(s, at),
-        PrimitiveType::Timestamptz => i64_at(s, at),
-        PrimitiveType::TimestampNs => i64_at(s, at),
-        PrimitiveType::TimestamptzNs => i64_at(s, at),
+        PrimitiveType::Int => i32_at(&*s, at) as i64,
+        PrimitiveType::Long => i64_at(&*s, at),
+        PrimitiveType::Date => i32_at(&*s, at) as i64,
+        PrimitiveType::Time => i64_at(&*s, at),
+        PrimitiveType::Timestamp => i64_at(&*s, at),
+        PrimitiveType::Timestamptz => i64_at(&*s, at),
+        PrimitiveType::TimestampNs => i64_at(&*s, at),
+        PrimitiveType::TimestamptzNs => i64_at(&*s, at),
         PrimitiveType::String => 0,
         PrimitiveType::Binary => 0,
     }

@@ -1,6 +1,7 @@
 -- `records::few_zeros` meets its contract: after each part, what is left of the run answers for the whole. Assumes nothing.
 use Prim.Native.Nat.{_*_, _/_}
 use native.Mathlib.Omega.{arith}
+use mathlib.Core.Bool.{true}
 use mathlib.Core.Logic.{⊎-elim}
 use mathlib.Core.Path.{_≡_}
 use denote.Ref.{now}
@@ -10,7 +11,7 @@ use Rattle.sheet.proofs.records.few_zeros.Statement.{statement}
 use Rattle.sheet.proofs.records.few_zeros.Tie as tie
 
 -- how far the run was read where the arms meet: past the four, and past the two
-four-read : (c : tie.Joined1) → let a = c .before .before .args in Run (now (a .s)) (a .at) (a .n) (c .if1 .i) × (c .if1 .i ≡ 4 * (a .n / 4))
+four-read : (c : tie.Joined1) → let a = c .before .before .args in Run (now (a .s)) (a .at) (a .n) (c .if1 .i) true × (c .if1 .i ≡ 4 * (a .n / 4))
 four-read c =
     let start = none (now (c .before .before .args .s)) (c .before .before .args .at) (c .before .before .args .n) in
     ⊎-elim
@@ -18,7 +19,7 @@ four-read c =
     (λ w. (rw (w .1) start, omega (arith, w .1, w .0 .left)))
     (c .if1 .came)
 
-two-read : (c : tie.Joined3) → let a = c .before .before .before .args in Run (now (a .s)) (a .at) (a .n) (c .if3 .i) × (c .if3 .i ≡ 2 * (a .n / 2))
+two-read : (c : tie.Joined3) → let a = c .before .before .before .args in Run (now (a .s)) (a .at) (a .n) (c .if3 .i) true × (c .if3 .i ≡ 2 * (a .n / 2))
 two-read c =
     let r = four-read (c .before) in
     ⊎-elim
