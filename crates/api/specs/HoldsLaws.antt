@@ -12,10 +12,10 @@ use Rattle.expr.specs.Predicates.{operatorIn, literalsIn}
 use Rattle.sheet.specs.Records.{value}
 use Rattle.sheet.specs.RefusalLaws.{Only, OnlyMalformed, only-bind, value-only, sheet-only}
 use Rattle.sheet.specs.Sheets.{sheet, holdsLimit}
-use Rattle.meets.specs.HeldAnswers.{heldAs, heldCode}
+use Rattle.meets.specs.HeldAnswers.{heldAs, heldNumber}
 use Rattle.meets.specs.HeldLaws.{Refusal, tested-held, held-only}
 use Rattle.meets.specs.Tested.{testedSheet}
-use Rattle.api.specs.HoldsTest.{holdsTest, heldNumber}
+use Rattle.api.specs.HoldsTest.{holdsTest}
 
 malformed : {A : Type 0} {r : Res A} → OnlyMalformed r → Only Refusal r
 malformed h = record { only = λ e d. inl (h .only e d) }
@@ -28,20 +28,14 @@ test-only s v =
     rw (tested-held x row) (held-only (x .head .column) (arity (operatorIn (x .leaf))) (literalsIn (x .leaf)) row)))
 
 -- 01: "gives only 0, 1, 3, 4"
-pub answers : (s v : List ℕ) → let n = heldNumber (holdsTest s v) in (n ≡ 0) ⊎ ((n ≡ 1) ⊎ ((n ≡ 3) ⊎ (n ≡ 4)))
+pub answers : (s v : List ℕ) → let n = heldNumber (heldAs (holdsTest s v)) in (n ≡ 0) ⊎ ((n ≡ 1) ⊎ ((n ≡ 3) ⊎ (n ≡ 4)))
 answers s v = go (holdsTest s v) (test-only s v)
   where
     refusal : {e : ErrorKind} → Refusal e → (errorNumber e ≡ 3) ⊎ (errorNumber e ≡ 4)
     refusal (inl is) = inl (ap errorNumber is)
     refusal (inr is) = inr (ap errorNumber is)
 
-    go : (r : Res Bool) → Only Refusal r → (heldNumber r ≡ 0) ⊎ ((heldNumber r ≡ 1) ⊎ ((heldNumber r ≡ 3) ⊎ (heldNumber r ≡ 4)))
+    go : (r : Res Bool) → Only Refusal r → let n = heldNumber (heldAs r) in (n ≡ 0) ⊎ ((n ≡ 1) ⊎ ((n ≡ 3) ⊎ (n ≡ 4)))
     go (ok true) h = inl refl
     go (ok false) h = inr (inl refl)
     go (err e) h = inr (inr (refusal (h .only e refl)))
-
--- the number that the code gives of its answer
-pub held-number : (r : Res Bool) → heldCode (heldAs r) ≡ heldNumber r
-held-number (ok true) = refl
-held-number (ok false) = refl
-held-number (err e) = refl

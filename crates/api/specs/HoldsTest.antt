@@ -1,8 +1,8 @@
 -- The holds-test over bytes: whether a row's value meets a sheet's leaf, or a partition value an answer sheet's predicate. Assumes nothing.
 use Prim.Native.Nat.{ℕ}
-use mathlib.Core.Bool.{Bool, true, false}
+use mathlib.Core.Bool.{Bool}
 use mathlib.Core.List.{List}
-use Rattle.values.specs.Outcomes.{Res, ok, err, errorNumber, _>>=_}
+use Rattle.values.specs.Outcomes.{Res, _>>=_}
 use Rattle.values.specs.Types.{layout}
 use Rattle.sheet.specs.Records.{value}
 use Rattle.sheet.specs.Sheets.{sheet, holdsLimit}
@@ -15,9 +15,3 @@ holdsTest s v = do
   x ← sheet holdsLimit s
   row ← value (layout (x .head .column)) v
   testedSheet x row
-
--- 01: "0: for the holds-test: yes, nothing written", "1: no"
-abbrev pub heldNumber : Res Bool → ℕ
-heldNumber (ok true) = 0
-heldNumber (ok false) = 1
-heldNumber (err e) = errorNumber e

@@ -53,7 +53,8 @@ heldAs (ok true) = Yes
 heldAs (ok false) = No
 heldAs (err e) = Err e
 
-abbrev pub heldCode : Held → ℕ
-heldCode Yes = 0
-heldCode No = 1
-heldCode (Err e) = errorNumber e
+-- 01: "0: for the holds-test: yes, nothing written", "1: no"
+abbrev pub heldNumber : Held → ℕ
+heldNumber Yes = 0
+heldNumber No = 1
+heldNumber (Err e) = errorNumber e

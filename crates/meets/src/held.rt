@@ -1,7 +1,7 @@
 // What the holds-test answers.
 use values::error::ErrorKind;
 ghost use mathlib.Core.Path.{_≡_};
-ghost use Rattle.meets.specs.HeldAnswers.{heldCode};
+ghost use Rattle.meets.specs.HeldAnswers.{heldNumber};
 
 // Whether a value meets a leaf, or why that is not said.
 pub enum Held {
@@ -13,7 +13,7 @@ pub enum Held {
 impl Held {
     // Document 01's number of the answer.
     pub fn number(self) -> u32
-        ensures { λ r. ⌜ r ≡ heldCode self ⌝ }
+        ensures { λ r. ⌜ r ≡ heldNumber self ⌝ }
     {
         match self {
             Held::Yes => 0,

@@ -40,7 +40,7 @@ pub fn content_of<'a>(s: &'a [u8], k: usize) -> &'a [u8]
     ensures { λ r. ⌜ now r ≡ contentAt (now (s .entry)) k ⌝ }
 {
     let at = RECORD_SIZE * k;
-    let n = u16_at(&*s, at + 2) as usize;
+    let n = u16_at(s, at + 2) as usize;
     let from = at + HEADER_SIZE;
     let to = from + n;
     &s[from..to]
@@ -65,14 +65,14 @@ pub fn number_of(s: &[u8], k: usize, column: PrimitiveType) -> i64
 {
     let at = RECORD_SIZE * k + HEADER_SIZE;
     match column {
-        PrimitiveType::Int => i32_at(&*s, at) as i64,
-        PrimitiveType::Long => i64_at(&*s, at),
-        PrimitiveType::Date => i32_at(&*s, at) as i64,
-        PrimitiveType::Time => i64_at(&*s, at),
-        PrimitiveType::Timestamp => i64_at(&*s, at),
-        PrimitiveType::Timestamptz => i64_at(&*s, at),
-        PrimitiveType::TimestampNs => i64_at(&*s, at),
-        PrimitiveType::TimestamptzNs => i64_at(&*s, at),
+        PrimitiveType::Int => i32_at(s, at) as i64,
+        PrimitiveType::Long => i64_at(s, at),
+        PrimitiveType::Date => i32_at(s, at) as i64,
+        PrimitiveType::Time => i64_at(s, at),
+        PrimitiveType::Timestamp => i64_at(s, at),
+        PrimitiveType::Timestamptz => i64_at(s, at),
+        PrimitiveType::TimestampNs => i64_at(s, at),
+        PrimitiveType::TimestamptzNs => i64_at(s, at),
         PrimitiveType::String => 0,
         PrimitiveType::Binary => 0,
     }

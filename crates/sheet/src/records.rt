@@ -27,13 +27,13 @@ fn few_zeros(s: &[u8], at: usize, n: usize) -> bool
 {
     let mut i = 0;
     if n >= 4 {
-        if u32_at(&*s, at + i) != 0 {
+        if u32_at(s, at + i) != 0 {
             return false;
         }
         i += 4;
     }
     if n % 4 >= 2 {
-        if u16_at(&*s, at + i) != 0 {
+        if u16_at(s, at + i) != 0 {
             return false;
         }
         i += 2;
@@ -51,12 +51,12 @@ pub fn zeros(s: &[u8], at: usize, n: usize) -> bool
     ensures { λ r. ⌜ r ≡ zeroAt at n (now (s .entry)) ⌝ }
 {
     if n < 8 {
-        return few_zeros(&*s, at, n);
+        return few_zeros(s, at, n);
     }
-    let mut all = u64_at(&*s, at);
+    let mut all = u64_at(s, at);
     let mut i = n % 8;
     while i < n {
-        all |= u64_at(&*s, at + i);
+        all |= u64_at(s, at + i);
         i += 8;
     }
     all == 0

@@ -1,4 +1,5 @@
 // A value record: missing, or present with a content.
+use crate::literal::content_of;
 use crate::literal::literal_ok;
 use crate::records::CONTENT_SIZE;
 use crate::records::HEADER_SIZE;
@@ -8,10 +9,14 @@ use crate::records::zeros;
 use values::datatypes::PrimitiveType;
 use values::error::ErrorKind;
 use values::words::u16_at;
+ghost use mathlib.Core.Bool.{true, cond};
+ghost use mathlib.Core.List.{[]};
 ghost use mathlib.Core.Path.{_≡_};
-ghost use Rattle.values.specs.Types.{layout};
-ghost use Rattle.sheet.specs.Records.{value};
-ghost use Rattle.sheet.specs.ReadAnswers.{valueResult};
+ghost use Prim.Native.Nat.{_≤_};
+ghost use lib.ListN.{length};
+ghost use Rattle.values.specs.Types.{layout, contentSize};
+ghost use Rattle.sheet.specs.Records.{recordSize, lengthIn, recordAt, value};
+ghost use Rattle.sheet.specs.ReadAnswers.{contentAt, valueResult};
 
 // Whether a value is missing, how many bytes it has, or why it is none.
 pub enum ValueResult {
@@ -41,4 +46,16 @@ pub fn read_value(v: &[u8], column: PrimitiveType) -> ValueResult
     } else {
         ValueResult::Err(ErrorKind::Malformed)
     }
+}
+
+// The content of a record whose value is present, and nothing where it is missing.
+pub fn content_in<'a>(v: &'a [u8], present: bool) -> &'a [u8]
+    requires { ⌜ (present ≡ true → recordSize ≤ length (now v)) ⌝ }
+    requires { ⌜ (present ≡ true → lengthIn (recordAt (now v) 0) ≤ contentSize) ⌝ }
+    ensures { λ r. ⌜ now r ≡ cond present (contentAt (now (v .entry)) 0) [] ⌝ }
+{
+    if present {
+        return content_of(v, 0);
+    }
+    &v[..0]
 }

@@ -7,7 +7,8 @@ ghost use mathlib.Core.Path.{_≡_};
 ghost use Rattle.projection.specs.declared.question.Question.the-variants.{Inclusive, Strict};
 ghost use Rattle.answers.specs.Answers.{asResult, answerNumber, answerCount};
 ghost use Rattle.write.specs.Written.{sheetBuffer};
-ghost use Rattle.api.specs.HoldsTest.{holdsTest, heldNumber};
+ghost use Rattle.meets.specs.HeldAnswers.{heldAs, heldNumber};
+ghost use Rattle.api.specs.HoldsTest.{holdsTest};
 ghost use Rattle.api.specs.Routines.{projectSheet, transformValue, valueBuffer, answered, leftIn};
 
 #[no_mangle]
@@ -52,7 +53,7 @@ pub extern "C" fn weighpick_transform(
 
 #[no_mangle]
 pub extern "C" fn weighpick_holds(sheet: &[u8], value: &[u8]) -> u32
-    ensures { λ r. ⌜ r ≡ heldNumber (holdsTest (now (sheet .entry)) (now (value .entry))) ⌝ }
+    ensures { λ r. ⌜ r ≡ heldNumber (heldAs (holdsTest (now (sheet .entry)) (now (value .entry)))) ⌝ }
 {
     holds(sheet, value).number()
 }
