@@ -1,9 +1,9 @@
 -- What the code that reads sheets answers, as the definitions have it: its enums, a walk's count, and the records that its numbers name. Assumes nothing.
 use Prim.Native.Nat.{ℕ, suc, _+_, _-_, _*_, _/_, _≤_, _<_}
-use mathlib.Core.Bool.{Bool, true, false}
+use mathlib.Core.Bool.{Bool, true, false, cond, _&&_}
 use mathlib.Core.List.{List, map, _++_}
 use mathlib.Core.Path.{_≡_}
-use lib.Dec.{eqb}
+use lib.Dec.{eqb, ltb}
 use lib.IntN.{ℤ, pos}
 use lib.ListN.{length, getD, take}
 use Rattle.values.specs.Numbered.{find}
@@ -13,7 +13,7 @@ use Rattle.values.specs.Words.{leNumber, field, word, zeroAt, signed}
 use Rattle.values.specs.declared.error.ErrorKind.the-variants.{Malformed}
 use Rattle.expr.specs.Operators.{operators, Arity, none, one, many}
 use Rattle.expr.specs.Predicates.{operatorIn, literalsIn}
-use Rattle.sheet.specs.Records.{headerSize, recordSize, recordAt, lengthIn}
+use Rattle.sheet.specs.Records.{headerSize, recordSize, recordAt, nextIn, lengthIn, content}
 use Rattle.sheet.specs.Sheets as sheets
 use Rattle.sheet.specs.declared.head.Head.{Head}
 use Rattle.sheet.specs.declared.head.HeadResult.{HeadResult}
@@ -89,6 +89,13 @@ partsAt s sizes numbers count = map (partAt s sizes) (take count numbers)
 -- what stands for a malformed chain: more literals than any sheet has
 abbrev pub malformedChain : ℕ
 malformedChain = suc sheets.holdsLimit
+
+-- the number of the literal after record `at` on its chain: 0 where the chain ends, and `malformedChain` where it is broken
+unfoldable pub literalAfter : Layout → List ℕ → ℕ → ℕ
+literalAfter l s at =
+    let n = nextIn (recordAt s at) in
+    let sound = ltb at n && ltb n (recordCount s) && isOk (content l (recordAt s n)) in
+    cond (eqb n 0) 0 (cond sound n malformedChain)
 
 -- so many numbers as were there before, and those found
 abbrev pub walkedAs : ℕ → Res (List ℕ) → ℕ
