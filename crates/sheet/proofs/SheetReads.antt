@@ -14,12 +14,12 @@ use Rattle.values.specs.Types.{layout}
 use Rattle.values.specs.declared.error.ErrorKind.{ErrorKind}
 use Rattle.values.specs.declared.error.ErrorKind.the-variants.{Malformed}
 use Rattle.expr.specs.Operators.{arity, takes}
-use Rattle.sheet.specs.ReadAnswers.{contentAt, recordCount, malformedChain, walkedAs, Stored, headIn, headResult, sheetResult, LiteralsRead}
+use Rattle.sheet.specs.ReadAnswers.{contentAt, recordCount, malformedChain, walkedAs, Stored, headIn, headResult, sheetResult, LiteralsRead, numbersFrom}
 use Rattle.sheet.specs.Records.{recordSize}
 use Rattle.sheet.specs.StepLaws.{withChain, sheet-steps, Made, predicate-made, predicate-refused}
 use Rattle.sheet.specs.Sheets.{Sheet, sheet, holdsLimit}
 use Rattle.sheet.specs.RefusalLaws.{OnlyMalformed}
-use Rattle.sheet.specs.WalkLaws.{numbersFrom, walk-malformed, few-above, literals-above, literal-at}
+use Rattle.sheet.specs.WalkLaws.{walk-malformed, few-above, literals-above, literal-at}
 use Rattle.sheet.specs.declared.head.Head.{Head}
 use Rattle.sheet.specs.declared.head.HeadResult.{HeadResult}
 use Rattle.sheet.specs.declared.sheet.SheetResult.{SheetResult}

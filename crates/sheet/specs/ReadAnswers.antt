@@ -1,8 +1,9 @@
 -- What the code that reads sheets answers, as the definitions have it: its enums, a walk's count, and the records that its numbers name. Assumes nothing.
-use Prim.Native.Nat.{ℕ, suc, _+_, _-_, _*_, _/_, _≤_, _<_}
-use mathlib.Core.Bool.{Bool, true, false}
-use mathlib.Core.List.{List, map, _++_}
+use Prim.Native.Nat.{ℕ, zero, suc, _+_, _-_, _*_, _/_, _≤_, _<_}
+use mathlib.Core.Bool.{Bool, true, false, cond, _&&_}
+use mathlib.Core.List.{List, [], _∷_, map, _++_}
 use mathlib.Core.Path.{_≡_}
+use lib.Dec.{eqb, ltb}
 use lib.IntN.{ℤ, pos}
 use lib.ListN.{length, getD, take}
 use Rattle.values.specs.Numbered.{find}
@@ -12,7 +13,7 @@ use Rattle.values.specs.Words.{leNumber, field, word, zeroAt, signed}
 use Rattle.values.specs.declared.error.ErrorKind.the-variants.{Malformed}
 use Rattle.expr.specs.Operators.{operators}
 use Rattle.expr.specs.Predicates.{operatorIn, literalsIn}
-use Rattle.sheet.specs.Records.{headerSize, recordSize, recordAt, lengthIn}
+use Rattle.sheet.specs.Records.{headerSize, recordSize, recordAt, nextIn, lengthIn, content}
 use Rattle.sheet.specs.Sheets as sheets
 use Rattle.sheet.specs.declared.head.Head.{Head}
 use Rattle.sheet.specs.declared.head.HeadResult.{HeadResult}
@@ -88,6 +89,34 @@ partsAt s sizes numbers count = map (partAt s sizes) (take count numbers)
 -- what stands for a malformed chain: more literals than any sheet has
 abbrev pub malformedChain : ℕ
 malformedChain = suc sheets.holdsLimit
+
+-- the number of the literal after record `at` on its chain: 0 where the chain ends, and `malformedChain` where it is broken
+unfoldable pub literalAfter : Layout → List ℕ → ℕ → ℕ
+literalAfter l s at =
+    let n = nextIn (recordAt s at) in
+    let sound = ltb at n && ltb n (recordCount s) && isOk (content l (recordAt s n)) in
+    cond (eqb n 0) 0 (cond sound n malformedChain)
+
+-- one number more, of a record that has to hold a literal
+abbrev pub withNumber : Layout → List ℕ → ℕ → Res (List ℕ) → Res (List ℕ)
+withNumber l s k rest = do
+  need (isOk (content l (recordAt s k))) Malformed
+  ns ← rest
+  ok (k ∷ ns)
+
+-- as `chain`, by numbers: of the m records k, k + 1, .. of s, the numbers of those on the chain that goes on at record n
+abbrev pub numbersOn : Layout → List ℕ → ℕ → ℕ → ℕ → Res (List ℕ)
+numbersOn l s k n zero = do
+  need (eqb n 0) Malformed
+  ok []
+numbersOn l s k n (suc m) =
+    let on = withNumber l s k (numbersOn l s (suc k) (nextIn (recordAt s k)) m) in
+    let off = numbersOn l s (suc k) n m in
+    cond (eqb n 0) (ok []) (cond (eqb n k) on off)
+
+-- the numbers of the literals after record `at` on its chain
+unfoldable pub numbersFrom : Layout → List ℕ → ℕ → Res (List ℕ)
+numbersFrom l s at = numbersOn l s (suc at) (nextIn (recordAt s at)) (recordCount s - suc at)
 
 -- so many numbers as were there before, and those found
 abbrev pub walkedAs : ℕ → Res (List ℕ) → ℕ

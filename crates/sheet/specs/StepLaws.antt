@@ -17,11 +17,11 @@ use Rattle.expr.specs.Operators.{Arity, none, one, many, arity, operators, oper
 use Rattle.expr.specs.PredicateLaws.{operator-of}
 use Rattle.expr.specs.Predicates.{Predicate, unary, test, binary, set, operatorIn, literalsIn, withLiterals, predicate}
 use Rattle.expr.specs.declared.operator.PredicateOperator.{PredicateOperator}
-use Rattle.sheet.specs.ReadAnswers.{recordCount, contentAt, headIn}
+use Rattle.sheet.specs.ReadAnswers.{recordCount, contentAt, headIn, numbersFrom}
 use Rattle.sheet.specs.PartLaws.{next-here}
 use Rattle.sheet.specs.Records.{recordSize, records, nextIn, content}
 use Rattle.sheet.specs.Sheets.{chain, head, Sheet, sheet}
-use Rattle.sheet.specs.WalkLaws.{numbersFrom, numbers-from-chain}
+use Rattle.sheet.specs.WalkLaws.{numbers-from-chain}
 use Rattle.sheet.specs.declared.head.Head.{Head}
 
 -- what follows a head: the leaf of its operator and of the literals on the chain

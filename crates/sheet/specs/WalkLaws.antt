@@ -1,48 +1,56 @@
--- The walk along the chain by record numbers, which tests each literal as it comes to it: what it finds, that this is what `sheet` reads, and one law a
--- step. Assumes nothing.
+-- The walk along the chain by record numbers, which tests each literal as it comes to it: one law a step, and that what it finds is what `sheet` reads.
+-- Assumes nothing.
 use Prim.Native.Nat.{ℕ, zero, suc, _+_, _-_, _*_, _≤_, _<_}
 use native.Mathlib.Omega.{arith}
-use mathlib.Core.Bool.{Bool, true, false, cond}
+use mathlib.Core.Bool.{Bool, true, false, cond, _&&_}
 use mathlib.Core.List.{List, [], _∷_, map}
-use mathlib.Core.Path.{_≡_, refl, ap, subst, _∙_}
-use lib.Dec.{eqb}
+use mathlib.Core.Path.{_≡_, refl, sym, ap, subst, _∙_}
+use lib.Dec.{eqb, ltb}
 use lib.ListN.{length, getD, drop}
 use lib.Seq.{drop-drop}
-use borrow.Author.Tests.{eq-eqb, ne-eqb}
+use borrow.Author.Tests.{eq-eqb, ne-eqb, eqb-true, eqb-false, ltb-true, ltb-false}
 use Rattle.values.specs.OutcomeLaws.{ok-inj, ok-not-err, passed, gone}
 use Rattle.values.specs.Outcomes.{Res, ok, err, need, each, _>>=_, _>>_}
 use Rattle.values.specs.Types.{Layout, layout, fits}
 use Rattle.values.specs.declared.datatypes.PrimitiveType.{PrimitiveType}
 use Rattle.values.specs.declared.error.ErrorKind.the-variants.{Malformed}
-use Rattle.sheet.specs.ReadAnswers.{isOk, recordCount, contentAt, LiteralAt}
+use Rattle.sheet.specs.ReadAnswers.{isOk, recordCount, contentAt, LiteralAt, malformedChain, literalAfter, withNumber, numbersOn, numbersFrom}
 use Rattle.sheet.specs.RecordLaws.{fits-room}
 use Rattle.sheet.specs.PartLaws.{content-by, content-fits}
 use Rattle.sheet.specs.Records.{recordSize, records, nextIn, lengthIn, content, recordAt}
 use Rattle.sheet.specs.RefusalLaws.{only-ok, only-bind, only-cond, OnlyMalformed, must, chain-only}
-use Rattle.sheet.specs.Sheets.{chain}
-
--- one number more, of a record that has to hold a literal
-abbrev pub withNumber : Layout → List ℕ → ℕ → Res (List ℕ) → Res (List ℕ)
-withNumber l s k rest = do
-  need (isOk (content l (recordAt s k))) Malformed
-  ns ← rest
-  ok (k ∷ ns)
-
--- as `chain`, by numbers: of the m records k, k + 1, .. of s, the numbers of those on the chain that goes on at record n
-abbrev pub numbersOn : Layout → List ℕ → ℕ → ℕ → ℕ → Res (List ℕ)
-numbersOn l s k n zero = do
-  need (eqb n 0) Malformed
-  ok []
-numbersOn l s k n (suc m) =
-    let on = withNumber l s k (numbersOn l s (suc k) (nextIn (recordAt s k)) m) in
-    let off = numbersOn l s (suc k) n m in
-    cond (eqb n 0) (ok []) (cond (eqb n k) on off)
-
--- the numbers of the literals after record `at` on its chain
-unfoldable pub numbersFrom : Layout → List ℕ → ℕ → Res (List ℕ)
-numbersFrom l s at = numbersOn l s (suc at) (nextIn (recordAt s at)) (recordCount s - suc at)
+use Rattle.sheet.specs.Sheets.{holdsLimit, chain}
 
 -- ---- one law a step
+
+-- the literal after record `at` has the number n, and is the first of those found
+pub record Next (l : Layout) (s : List ℕ) (at n : ℕ) : Type 0 where
+  pub above : at < n
+  pub below : n < recordCount s
+  pub more : numbersFrom l s at ≡ (numbersFrom l s n >>= λ ns. ok (n ∷ ns))
+
+-- what `literalAfter` tells of the numbers found
+pub data After (l : Layout) (s : List ℕ) (at : ℕ) : ℕ → Type 0 where
+  end : numbersFrom l s at ≡ ok [] → After l s at 0
+  broken : numbersFrom l s at ≡ err Malformed → After l s at malformedChain
+  next : {n : ℕ} → Next l s at n → After l s at n
+
+module _ {l : Layout} {s : List ℕ} {at : ℕ} where
+  pub walk-ends : {n : ℕ} → After l s at n → n ≡ 0 → numbersFrom l s at ≡ ok []
+  walk-ends (end e) z = e
+  walk-ends (broken e) z = absurd (omega arith)
+  walk-ends (next x) z = absurd (omega arith)
+
+  pub walk-breaks : {n : ℕ} → After l s at n → length s ≤ recordSize * suc holdsLimit → n ≡ malformedChain → numbersFrom l s at ≡ err Malformed
+  walk-breaks (end e) h z = absurd (omega arith)
+  walk-breaks (broken e) h z = e
+  walk-breaks (next x) h z = absurd (omega arith)
+
+  pub walk-goes-on : {n : ℕ} → After l s at n → (n ≡ 0 → ⊥) → (n ≡ malformedChain → ⊥) → Next l s at n
+  walk-goes-on (end e) f g = absurd (f refl)
+  walk-goes-on (broken e) f g = absurd (g refl)
+  walk-goes-on (next x) f g = x
+
 module _ (l : Layout) (s : List ℕ) where
   numbers-end : (k m : ℕ) → numbersOn l s k 0 m ≡ ok []
   numbers-end k zero = refl
@@ -70,21 +78,17 @@ module _ (l : Layout) (s : List ℕ) where
       (numbers-broken n m (suc k) g (λ j i e. h (suc j) (omega arith) (omega arith)))
 
   module _ (at n : ℕ) (is : n ≡ nextIn (recordAt s at)) where
-    pub walk-end : n ≡ 0 → numbersFrom l s at ≡ ok []
+    at-end : n ≡ 0 → numbersFrom l s at ≡ ok []
     unfolding numbersFrom
-    walk-end z = rw (← is, z) (numbers-end (suc at) (recordCount s - suc at))
+    at-end z = rw (← is, z) (numbers-end (suc at) (recordCount s - suc at))
 
-    pub walk-back : (n ≡ 0 → ⊥) → n ≤ at → numbersFrom l s at ≡ err Malformed
+    at-none : (n ≡ 0 → ⊥) → (at < n → n < recordCount s → ⊥) → numbersFrom l s at ≡ err Malformed
     unfolding numbersFrom
-    walk-back z h = rw (← is) (numbers-broken n (recordCount s - suc at) (suc at) z (λ j i e. omega arith))
+    at-none z f = rw (← is) (numbers-broken n (recordCount s - suc at) (suc at) z (λ j i e. f (omega arith) (omega arith)))
 
-    pub walk-past : (n ≡ 0 → ⊥) → recordCount s ≤ n → numbersFrom l s at ≡ err Malformed
+    at-record : at < n → n < recordCount s → numbersFrom l s at ≡ withNumber l s n (numbersFrom l s n)
     unfolding numbersFrom
-    walk-past z h = rw (← is) (numbers-broken n (recordCount s - suc at) (suc at) z (λ j i e. omega arith))
-
-    pub walk-on : at < n → n < recordCount s → numbersFrom l s at ≡ withNumber l s n (numbersFrom l s n)
-    unfolding numbersFrom
-    walk-on a b =
+    at-record a b =
         let d = n - suc at in
         let e : suc at + d ≡ n = omega arith in
         let f : (recordCount s - suc at) - suc d ≡ recordCount s - suc n = omega arith in
@@ -92,6 +96,21 @@ module _ (l : Layout) (s : List ℕ) where
         rw (← is)
         (subst (λ (x : ℕ). numbersOn l s (suc at) x (recordCount s - suc at) ≡ withNumber l s x (numbersOn l s (suc x) (nextIn (recordAt s x)) left)) e
         (rw (← f) (numbers-hop d (recordCount s - suc at) (suc at) (omega arith) (omega arith))))
+
+    by-tests : (z a b o : Bool) → eqb n 0 ≡ z → ltb at n ≡ a → ltb n (recordCount s) ≡ b → isOk (content l (recordAt s n)) ≡ o
+        → After l s at (cond z 0 (cond (a && b && o) n malformedChain))
+    by-tests true a b o z f g h = end (at-end (eqb-true n 0 z))
+    by-tests false false b o z f g h = broken (at-none (eqb-false n 0 z) (λ i j. omega (arith, ltb-false at n f)))
+    by-tests false true false o z f g h = broken (at-none (eqb-false n 0 z) (λ i j. omega (arith, ltb-false n (recordCount s) g)))
+    by-tests false true true false z f g h = broken (at-record (ltb-true at n f) (ltb-true n (recordCount s) g) ∙ rw h)
+    by-tests false true true true z f g h =
+        let a = ltb-true at n f in
+        let b = ltb-true n (recordCount s) g in
+        next (record { above = a; below = b; more = at-record a b ∙ rw h })
+
+pub tells : {l : Layout} {s : List ℕ} {at n : ℕ} → n ≡ literalAfter l s at → After l s at n
+unfolding literalAfter
+tells {l} {s} {at} is = subst (After l s at) (sym is) (by-tests l s at (nextIn (recordAt s at)) refl _ _ _ _ refl refl refl refl)
 
 -- ---- what `sheet` reads
 

@@ -10,14 +10,35 @@ ghost use lib.ListN.{length};
 ghost use Rattle.values.specs.Types.{layout};
 ghost use Rattle.sheet.specs.Records.{recordSize};
 ghost use Rattle.sheet.specs.Sheets.{holdsLimit};
-ghost use Rattle.sheet.specs.ReadAnswers.{recordCount, walkedAs, Stored};
-ghost use Rattle.sheet.specs.WalkLaws.{numbersFrom};
+ghost use Rattle.sheet.specs.ReadAnswers.{recordCount, literalAfter, walkedAs, Stored, numbersFrom};
 
-// What `walk` gives for a malformed chain: more literals than any sheet has.
+// What stands for a malformed chain: more literals than any sheet has.
 pub const MALFORMED_CHAIN: usize = HOLDS_LIMIT + 1;
+
+// The literal after record `at` on its chain: the number of its record, 0 where the chain ends, and MALFORMED_CHAIN where it is broken.
+fn literal_after(s: &[u8], column: PrimitiveType, at: usize) -> usize
+    requires { ⌜ at < recordCount (now s) ⌝ }
+    ensures { λ r. ⌜ r ≡ literalAfter (layout column) (now (s .entry)) at ⌝ }
+{
+    let next = u16_at(s, RECORD_SIZE * at) as usize;
+    if next == 0 {
+        return 0;
+    }
+    if next <= at {
+        return MALFORMED_CHAIN;
+    }
+    if s.len() / RECORD_SIZE <= next {
+        return MALFORMED_CHAIN;
+    }
+    if literal_ok(s, next, column) {
+        return next;
+    }
+    MALFORMED_CHAIN
+}
 
 // The literals after record `at` on its chain: each is tested, and its number goes into `numbers`, after the first `filled`.
 // Gives their count, the first `filled` included: a plain number, since an enum would be copied at every step.
+// Two at each call: so deep a recursion as one for each literal would leave the returns that a processor predicts.
 pub fn walk(s: &[u8], column: PrimitiveType, at: usize, filled: usize, numbers: &mut [u16]) -> usize
     requires { ⌜ length (now s) ≤ recordSize * suc holdsLimit ⌝ }
     requires { ⌜ at < recordCount (now s) ⌝ }
@@ -26,20 +47,21 @@ pub fn walk(s: &[u8], column: PrimitiveType, at: usize, filled: usize, numbers: 
     ensures { λ r. ⌜ r ≡ walkedAs filled (numbersFrom (layout column) (now (s .entry)) at) ⌝ }
     ensures { λ r. ⌜ Stored filled (numbersFrom (layout column) (now (s .entry)) at) (now (numbers .entry)) (now (numbers .exit)) ⌝ }
 {
-    let next = u16_at(s, RECORD_SIZE * at);
-    if next == 0 {
+    let n = literal_after(s, column, at);
+    if n == 0 {
         return filled;
     }
-    let n = next as usize;
-    if n <= at {
+    if n == MALFORMED_CHAIN {
         return MALFORMED_CHAIN;
     }
-    if s.len() / RECORD_SIZE <= n {
+    numbers[filled] = n as u16;
+    let m = literal_after(s, column, n);
+    if m == 0 {
+        return filled + 1;
+    }
+    if m == MALFORMED_CHAIN {
         return MALFORMED_CHAIN;
     }
-    if literal_ok(s, n, column) {
-        numbers[filled] = next;
-        return walk(s, column, n, filled + 1, numbers);
-    }
-    MALFORMED_CHAIN
+    numbers[filled + 1] = m as u16;
+    walk(&*s, column, m, filled + 2, numbers)
 }

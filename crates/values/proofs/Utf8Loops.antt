@@ -9,7 +9,7 @@ use lib.ListN.{length, getD, drop}
 use lib.Seq.{drop-cons}
 use Rattle.values.specs.Utf8.{continues, codePoints}
 use Rattle.values.specs.Utf8Laws.{starts, count-parts}
-use Rattle.values.specs.Utf8StepLaws.{awaited}
+use Rattle.values.specs.Answers.{awaited}
 use Rattle.values.specs.declared.utf8.Rest.{Rest}
 
 pub count-first : (s : List ℕ) → (length s ≡ 0 → ⊥) → 1 + starts (drop 1 s) ≡ length (codePoints s)

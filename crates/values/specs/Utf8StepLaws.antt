@@ -6,27 +6,13 @@ use mathlib.Core.List.{List, [], _∷_, _++_}
 use mathlib.Core.Path.{_≡_, refl, sym, ap, _∙_}
 use native.Mathlib.Numerals.{sub-one}
 use lib.Dec.{leb, ltb, eqb}
-use lib.ListN.{replicate}
 use borrow.Author.Tests.{leb-true, ltb-true, ltb-false, le-leb, lt-leb, ne-eqb}
 use Rattle.values.specs.Utf8.{Range, _to_, within, tail, forms, matches, anyForm, isCodePoint, codePoints, allCodePoints, utf8, concat}
+use Rattle.values.specs.Answers.{follows, ranges, awaited}
 use Rattle.values.specs.TestLaws.{and-both, both-and, same-test}
 use Rattle.values.specs.CodePointLaws.{every}
 use Rattle.values.specs.Utf8Laws.{first-part, concat-code-points, utf8-concat, utf8-code-point}
 use Rattle.values.specs.declared.utf8.Rest.{Rest}
-
--- a byte in each of the ranges, and then UTF-8
-abbrev pub follows : List Range → List ℕ → Bool
-follows [] s = utf8 s
-follows (r ∷ rs) [] = false
-follows (r ∷ rs) (b ∷ bs) = within b r && follows rs bs
-
-abbrev pub ranges : ℕ → Range → List Range
-ranges zero r = []
-ranges (suc n) r = r ∷ replicate n tail
-
--- what a reader awaits that has read a part of a code point
-abbrev pub awaited : Rest → List ℕ → Bool
-awaited q s = follows (ranges (q .0) (q .1 to q .2)) s
 
 -- ---- what is left of each form that a byte begins
 
