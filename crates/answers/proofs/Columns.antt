@@ -1,10 +1,14 @@
--- The column that the arm `_` is for. Assumes nothing.
-use types.Run.{OneOf}
-use denote.Enum.Declared.{tagOf}
+-- The kind of a column by what `is_bytes` told of it. Assumes nothing.
+use mathlib.Core.Bool.{Bool, true, false}
+use mathlib.Core.Path.{_≡_, sym, _∙_}
+use Rattle.values.specs.Types.{layout, isBytes}
+use Rattle.values.specs.TypesLaws.{bytes-layout, number-layout}
 use Rattle.values.specs.declared.datatypes.PrimitiveType.{PrimitiveType}
-use Rattle.values.proofs.datatypes.PrimitiveType.{the-type}
-use Rattle.sheet.proofs.Types.{numberTags, number-type}
-use Rattle.answers.specs.Leaves.{NumberColumn}
+use Rattle.answers.specs.Leaves.{NumberColumn, BytesColumn}
 
-pub number-column : (t : PrimitiveType) → OneOf numberTags (tagOf the-type t) → NumberColumn t
-number-column t m = let q = number-type t m in record { size = q .0; is = q .1 .is }
+module _ (t : PrimitiveType) {told : Bool} (is : told ≡ isBytes (layout t)) where
+  pub bytes-column : told ≡ true → BytesColumn t
+  bytes-column h = bytes-layout t (sym is ∙ h)
+
+  pub number-column : told ≡ false → NumberColumn t
+  number-column h = let n = number-layout (layout t) (sym is ∙ h) in record { size = n .0; is = n .1 }

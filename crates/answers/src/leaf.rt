@@ -1,6 +1,6 @@
 // A leaf to be projected: the checks before the steps, and the steps by the operator and the column's type,
 // the choice in the Rust's `project` and `strict_project` (src/spec/transform.rs).
-// An arm that calls returns, so that the answer is written where it belongs and is not copied from arm to arm.
+// Each function that answers is called in one place, so that the compiler can put it there, and an answer stays in registers.
 use crate::answer::Answer;
 use crate::answer::RECORD;
 use crate::number;
@@ -54,11 +54,10 @@ fn project_binary(x: Leaf, s: &[u8], numbers: &[u16], out: &mut [u8]) -> Answer
     ensures { λ r. ⌜ Settled (steps x (bytesLeafAt x (now (s .entry)) (now (numbers .entry)))) (now (out .entry)) (now (out .exit)) r ⌝ }
 {
     let column = x.column;
-    match column {
-        PrimitiveType::String => return string::project_one(x, s, numbers, out),
-        PrimitiveType::Binary => return string::project_one(x, s, numbers, out),
-        _ => return number::project_one(x, s, numbers, out),
+    if column.is_bytes() {
+        return string::project_one(x, &*s, &*numbers, out);
     }
+    number::project_one(x, &*s, &*numbers, out)
 }
 
 // Whether a set has a projection: inclusive keeps In, strict NotIn, and Identity both.
@@ -99,11 +98,10 @@ fn project_set(x: Leaf, s: &[u8], numbers: &[u16], out: &mut [u8]) -> Answer
     if !keeps_set(question, operator, transform) {
         return Answer::NoPredicate;
     }
-    match column {
-        PrimitiveType::String => return string::project_set(x, s, numbers, out),
-        PrimitiveType::Binary => return string::project_set(x, s, numbers, out),
-        _ => return number::project_set(x, s, numbers, out),
+    if column.is_bytes() {
+        return string::project_set(x, &*s, &*numbers, out);
     }
+    number::project_set(x, &*s, &*numbers, out)
 }
 
 // The steps.
@@ -112,15 +110,13 @@ fn project_known(x: Leaf, s: &[u8], numbers: &[u16], out: &mut [u8]) -> Answer
     ensures { λ r. ⌜ Settled (steps x (bytesLeafAt x (now (s .entry)) (now (numbers .entry)))) (now (out .entry)) (now (out .exit)) r ⌝ }
 {
     let operator = x.operator;
-    match operator {
-        PredicateOperator::IsNull => return project_unary(x, s, numbers, out),
-        PredicateOperator::NotNull => return project_unary(x, s, numbers, out),
-        PredicateOperator::IsNan => return project_unary(x, s, numbers, out),
-        PredicateOperator::NotNan => return project_unary(x, s, numbers, out),
-        PredicateOperator::In => return project_set(x, s, numbers, out),
-        PredicateOperator::NotIn => return project_set(x, s, numbers, out),
-        _ => return project_binary(x, s, numbers, out),
+    if operator.is_unary() {
+        return project_unary(x, &*s, &*numbers, out);
     }
+    if operator.is_set() {
+        return project_set(x, &*s, &*numbers, out);
+    }
+    project_binary(x, &*s, &*numbers, out)
 }
 
 // Unknown's 7, and Void, which has no predicate for any operator.
@@ -133,7 +129,7 @@ fn project_checked(x: Leaf, s: &[u8], numbers: &[u16], out: &mut [u8]) -> Answer
     match transform {
         Transform::Void => return Answer::NoPredicate,
         Transform::Unknown => return Answer::Err(ErrorKind::FeatureUnsupported),
-        _ => return project_known(x, s, numbers, out),
+        _ => return project_known(x, &*s, &*numbers, out),
     }
 }
 
@@ -152,7 +148,7 @@ pub fn project_leaf(
     let operator = head.operator;
     let column = head.column;
     let transform = head.transform;
-    if !literals_ok(s, numbers, count, column) {
+    if !literals_ok(&*s, &*numbers, count, column) {
         return Answer::Err(ErrorKind::NotUtf8);
     }
     let to = match result_type(transform, column) {
@@ -167,5 +163,5 @@ pub fn project_leaf(
         count,
         to,
     };
-    project_checked(x, s, numbers, out)
+    project_checked(x, &*s, &*numbers, out)
 }

@@ -1,46 +1,40 @@
--- `leaf::project_binary` meets its contract: each arm answers for its type, and `_` for the types of numbers. Assumes nothing.
-use mathlib.Core.Path.{ap}
+-- `leaf::project_binary` meets its contract: the steps are those of the column's kind. Assumes nothing.
 use borrow.Author.Needs.{needs}
-use Rattle.values.specs.Types.{layout}
+use Rattle.answers.specs.Leaves.{NumberColumn, BytesColumn}
 use Rattle.answers.specs.SettledLaws.{settled-as}
 use Rattle.answers.specs.StepsLaws.{bytes-steps, number-steps}
-use Rattle.answers.proofs.Columns.{number-column}
+use Rattle.answers.proofs.Columns.{bytes-column, number-column}
 use Rattle.answers.proofs.leaf.project_binary.Statement.{statement}
 use Rattle.answers.proofs.leaf.project_binary.Tie as tie
 
-project-one-requires-3 : tie.Need-project-one-requires-3
-project-one-requires-3 c κs =
-    let m = c .before in
-    let start = m .before .before .before .before in
-    (number-column (start .args .x .column) (m .match .keys3), start .pre)
+abbrev start-of : tie.After-is-bytes → tie.Start
+start-of c = c .before .before .before .before
+
+-- the column's kind, as it was told
+bytes : (c : tie.Then1) → BytesColumn (start-of (c .before) .args .x .column)
+bytes c = bytes-column (start-of (c .before) .args .x .column) (c .before .is-bytes .ensures) (c .if1 .taken)
+
+numbers : (c : tie.Else1) → NumberColumn (start-of (c .before) .args .x .column)
+numbers c = number-column (start-of (c .before) .args .x .column) (c .before .is-bytes .ensures) (c .if1 .left)
 
 returns : tie.Need-returns
-returns c = let w = c .before .before in settled-as (bytes-steps _ _ (ap layout (w .before .before .enum-told .given .1))) (w .project-one .ensures)
+returns c = let call = c .before .before in settled-as (bytes-steps _ _ (bytes (call .before .before))) (call .project-one .ensures)
 
 returns-2 : tie.Need-returns-2
-returns-2 c = let w = c .before .before in settled-as (bytes-steps _ _ (ap layout (w .before .before .enum-told2 .given .1))) (w .project-one2 .ensures)
-
-returns-3 : tie.Need-returns-3
-returns-3 c =
-    let w = c .before .before in
-    let m = w .before .before in
-    let start = m .before .before .before .before in
-    settled-as
-    (number-steps (start .args .x) _ _ (number-column (start .args .x .column) (m .match .keys3)) (start .pre .0 .ready .placed))
-    (w .project-one3 .ensures)
+returns-2 c =
+    let call = c .before .before in
+    let at = call .before .before in
+    let start = start-of (at .before) in
+    settled-as (number-steps (start .args .x) _ _ (numbers at) (start .pre .0 .ready .placed)) (call .project-one2 .ensures)
 
 pub project-binary-spec : {M : Type 1} → statement M
 project-binary-spec =
     tie.close
     (tie.spec
-    (search needs)
     (λ c κs. search needs)
+    (λ c κs. let h = bytes (c .before) in search needs)
     (search needs)
     returns
+    (λ c κs. let h = numbers (c .before) in search needs)
     (search needs)
-    (λ c κs. search needs)
-    (search needs)
-    returns-2
-    project-one-requires-3
-    (search needs)
-    returns-3)
+    returns-2)
