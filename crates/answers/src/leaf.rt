@@ -55,9 +55,9 @@ fn project_binary(x: Leaf, s: &[u8], numbers: &[u16], out: &mut [u8]) -> Answer
 {
     let column = x.column;
     if column.is_bytes() {
-        return string::project_one(x, &*s, &*numbers, out);
+        return string::project_one(x, s, numbers, out);
     }
-    number::project_one(x, &*s, &*numbers, out)
+    number::project_one(x, s, numbers, out)
 }
 
 // Whether a set has a projection: inclusive keeps In, strict NotIn, and Identity both.
@@ -99,9 +99,9 @@ fn project_set(x: Leaf, s: &[u8], numbers: &[u16], out: &mut [u8]) -> Answer
         return Answer::NoPredicate;
     }
     if column.is_bytes() {
-        return string::project_set(x, &*s, &*numbers, out);
+        return string::project_set(x, s, numbers, out);
     }
-    number::project_set(x, &*s, &*numbers, out)
+    number::project_set(x, s, numbers, out)
 }
 
 // The steps.
@@ -111,12 +111,12 @@ fn project_known(x: Leaf, s: &[u8], numbers: &[u16], out: &mut [u8]) -> Answer
 {
     let operator = x.operator;
     if operator.is_unary() {
-        return project_unary(x, &*s, &*numbers, out);
+        return project_unary(x, s, numbers, out);
     }
     if operator.is_set() {
-        return project_set(x, &*s, &*numbers, out);
+        return project_set(x, s, numbers, out);
     }
-    project_binary(x, &*s, &*numbers, out)
+    project_binary(x, s, numbers, out)
 }
 
 // Unknown's 7, and Void, which has no predicate for any operator.
@@ -129,7 +129,7 @@ fn project_checked(x: Leaf, s: &[u8], numbers: &[u16], out: &mut [u8]) -> Answer
     match transform {
         Transform::Void => return Answer::NoPredicate,
         Transform::Unknown => return Answer::Err(ErrorKind::FeatureUnsupported),
-        _ => return project_known(x, &*s, &*numbers, out),
+        _ => return project_known(x, s, numbers, out),
     }
 }
 
@@ -148,7 +148,7 @@ pub fn project_leaf(
     let operator = head.operator;
     let column = head.column;
     let transform = head.transform;
-    if !literals_ok(&*s, &*numbers, count, column) {
+    if !literals_ok(s, numbers, count, column) {
         return Answer::Err(ErrorKind::NotUtf8);
     }
     let to = match result_type(transform, column) {
@@ -163,5 +163,5 @@ pub fn project_leaf(
         count,
         to,
     };
-    project_checked(x, &*s, &*numbers, out)
+    project_checked(x, s, numbers, out)
 }

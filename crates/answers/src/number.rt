@@ -58,7 +58,7 @@ pub fn project_one(x: Leaf, s: &[u8], numbers: &[u16], out: &mut [u8]) -> Answer
     let transform = x.transform;
     let to = x.to;
     let k = numbers[0] as usize;
-    let l = number_of(&*s, k, column);
+    let l = number_of(s, k, column);
     if let Transform::Identity = transform {
         return put_projection(to, NumberProjection::One(operator, l), out);
     }
@@ -94,7 +94,7 @@ pub fn project_set(x: Leaf, s: &[u8], numbers: &[u16], out: &mut [u8]) -> Answer
     let to = x.to;
     let lifts = lifts_set(question, column, transform);
     let mut set = [0; 128];
-    match project_set_expr(&*s, &*numbers, x.count, column, transform, lifts, &mut set) {
+    match project_set_expr(s, numbers, x.count, column, transform, lifts, &mut set) {
         Collected::Err(e) => Answer::Err(e),
         Collected::Count(n) => {
             put_numbers(out, operator, to, &set, n);

@@ -53,13 +53,13 @@ pub fn project_one(x: Leaf, s: &[u8], numbers: &[u16], out: &mut [u8]) -> Answer
     let transform = x.transform;
     let to = x.to;
     let k = numbers[0] as usize;
-    let l = content_of(&*s, k);
+    let l = content_of(s, k);
     match transform {
         Transform::Truncate(width) => {
-            let p = project_bytes(question, column, width, operator, &*l);
-            put_projection(to, p, &*l, out)
+            let p = project_bytes(question, column, width, operator, l);
+            put_projection(to, p, l, out)
         }
-        _ => put_projection(to, BytesProjection::Prefix(operator, l.len()), &*l, out),
+        _ => put_projection(to, BytesProjection::Prefix(operator, l.len()), l, out),
     }
 }
 
@@ -77,18 +77,10 @@ pub fn project_set(x: Leaf, s: &[u8], numbers: &[u16], out: &mut [u8]) -> Answer
     let to = x.to;
     let mut sizes = [0; 65];
     let mut set = [0; 128];
-    match project_set_expr(
-        &*s,
-        &*numbers,
-        x.count,
-        column,
-        transform,
-        &mut sizes,
-        &mut set,
-    ) {
+    match project_set_expr(s, numbers, x.count, column, transform, &mut sizes, &mut set) {
         Collected::Err(e) => Answer::Err(e),
         Collected::Count(n) => {
-            put_strings(out, operator, to, &*s, &sizes, &set, n);
+            put_strings(out, operator, to, s, &sizes, &set, n);
             Answer::Written(RECORD * (n + 1) as u16)
         }
     }

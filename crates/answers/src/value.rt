@@ -9,8 +9,8 @@ use partition::number::transform_number;
 use partition::result::result_type;
 use sheet::content::number_in;
 use sheet::content::value_utf8;
-use sheet::literal::content_of;
 use sheet::value::ValueResult;
+use sheet::value::content_in;
 use sheet::value::read_value;
 use values::datatypes::PrimitiveType;
 use values::datatypes::TypeResult;
@@ -19,19 +19,17 @@ use values::transform::Transform;
 use write::write::put_missing;
 use write::write::put_number;
 use write::write::put_string;
-ghost use mathlib.Core.Bool.{true, not, cond, _||_};
-ghost use mathlib.Core.List.{[]};
+ghost use mathlib.Core.Bool.{true, not, _||_};
 ghost use mathlib.Core.Logic.{_⊎_};
 ghost use mathlib.Core.Path.{_≡_};
 ghost use Prim.Native.Nat.{_≤_};
 ghost use lib.ListN.{length};
 ghost use Rattle.values.specs.Outcomes.{ok};
-ghost use Rattle.values.specs.Types.{layout, fits, sameType, contentSize};
+ghost use Rattle.values.specs.Types.{layout, fits, sameType};
 ghost use Rattle.values.specs.declared.datatypes.PrimitiveType.the-variants.{String};
 ghost use Rattle.partition.specs.Answers.{numberRow};
 ghost use Rattle.partition.specs.ResultType.{resultType};
-ghost use Rattle.sheet.specs.ReadAnswers.{contentAt};
-ghost use Rattle.sheet.specs.Records.{recordSize, recordAt, lengthIn};
+ghost use Rattle.sheet.specs.Records.{recordSize};
 ghost use Rattle.answers.specs.Answers.{transformedRow, asResult, Settled};
 ghost use Rattle.values.specs.Outcomes.{row};
 ghost use Rattle.sheet.specs.Contents.{rowUtf8};
@@ -44,7 +42,7 @@ fn number_row(present: bool, content: &[u8]) -> NumberRow
     ensures { λ r. ⌜ numberRow r ≡ numberRowIn (row present (now (content .entry))) (length (now (content .entry))) ⌝ }
 {
     if present {
-        NumberRow::Present(number_in(&*content))
+        NumberRow::Present(number_in(content))
     } else {
         NumberRow::Missing
     }
@@ -64,7 +62,7 @@ fn transform_number_row(
     requires { ⌜ recordSize ≤ length (now out) ⌝ }
     ensures { λ r. ⌜ Settled (numberValue column transform to (numberRowIn (row present (now (content .entry))) (length (now (content .entry))))) (now (out .entry)) (now (out .exit)) r ⌝ }
 {
-    match transform_number(column, transform, number_row(present, &*content)) {
+    match transform_number(column, transform, number_row(present, content)) {
         NumberResult::Err(e) => Answer::Err(e),
         NumberResult::Missing => {
             put_missing(out);
@@ -89,7 +87,7 @@ fn transform_bytes_row(
     requires { ⌜ recordSize ≤ length (now out) ⌝ }
     ensures { λ r. ⌜ Settled (bytesValue column transform (row present (now (content .entry)))) (now (out .entry)) (now (out .exit)) r ⌝ }
 {
-    match transform_bytes(column, transform, present, &*content) {
+    match transform_bytes(column, transform, present, content) {
         BytesResult::Err(e) => Answer::Err(e),
         BytesResult::Missing => {
             put_missing(out);
@@ -107,7 +105,7 @@ fn value_ok(column: PrimitiveType, present: bool, content: &[u8]) -> bool
     ensures { λ r. ⌜ r ≡ (not (sameType column String) || rowUtf8 (row present (now (content .entry)))) ⌝ }
 {
     if let PrimitiveType::String = column {
-        value_utf8(present, &*content)
+        value_utf8(present, content)
     } else {
         true
     }
@@ -125,7 +123,7 @@ fn transform_row(
     requires { ⌜ recordSize ≤ length (now out) ⌝ }
     ensures { λ r. ⌜ Settled (asResult (transformedRow column transform (row present (now (content .entry))))) (now (out .entry)) (now (out .exit)) r ⌝ }
 {
-    if !value_ok(column, present, &*content) {
+    if !value_ok(column, present, content) {
         return Answer::Err(ErrorKind::NotUtf8);
     }
     let to = match result_type(transform, column) {
@@ -133,21 +131,9 @@ fn transform_row(
         TypeResult::Ok(to) => to,
     };
     if column.is_bytes() {
-        return transform_bytes_row(column, transform, present, &*content, out);
+        return transform_bytes_row(column, transform, present, content, out);
     }
-    transform_number_row(column, transform, to, present, &*content, out)
-}
-
-// The content of a record whose value is present, and nothing where it is missing.
-fn content_in<'a>(value: &'a [u8], present: bool) -> &'a [u8]
-    requires { ⌜ (present ≡ true → recordSize ≤ length (now value)) ⌝ }
-    requires { ⌜ (present ≡ true → lengthIn (recordAt (now value) 0) ≤ contentSize) ⌝ }
-    ensures { λ r. ⌜ now r ≡ cond present (contentAt (now (value .entry)) 0) [] ⌝ }
-{
-    if present {
-        return content_of(&*value, 0);
-    }
-    &value[..0]
+    transform_number_row(column, transform, to, present, content, out)
 }
 
 // The value in a record.
@@ -160,16 +146,10 @@ pub fn transform_value(
     requires { ⌜ recordSize ≤ length (now out) ⌝ }
     ensures { λ r. ⌜ Settled (valueAnswer column transform (now (value .entry))) (now (out .entry)) (now (out .exit)) r ⌝ }
 {
-    let present = match read_value(&*value, column) {
+    let present = match read_value(value, column) {
         ValueResult::Err(e) => return Answer::Err(e),
         ValueResult::Missing => false,
         ValueResult::Present(_) => true,
     };
-    transform_row(
-        column,
-        transform,
-        present,
-        content_in(&*value, present),
-        out,
-    )
+    transform_row(column, transform, present, content_in(value, present), out)
 }

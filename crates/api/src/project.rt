@@ -24,11 +24,12 @@ fn project_sheet(question: Question, sheet: &[u8], out: &mut [u8]) -> Answer
         return Answer::BufferTooSmall;
     }
     let mut numbers = [0; HOLDS_LIMIT];
-    let read = match read_sheet(sheet, PROJECT_LIMIT, &mut numbers) {
+    // `&*sheet` lets the compiler hand on address and length in registers.
+    let read = match read_sheet(&*sheet, PROJECT_LIMIT, &mut numbers) {
         SheetResult::Err(e) => return Answer::Err(e),
         SheetResult::Ok(read) => read,
     };
-    project_leaf(question, read.head, read.count, sheet, &numbers, out)
+    project_leaf(question, read.head, read.count, &*sheet, &numbers, out)
 }
 
 // Which partition values may have a row that meets the sheet's leaf.

@@ -22,6 +22,7 @@ pub fn literal_ok(s: &[u8], k: usize, column: PrimitiveType) -> bool
     ensures { λ r. ⌜ r ≡ isOk (content (layout column) (recordAt (now (s .entry)) k)) ⌝ }
 {
     let at = RECORD_SIZE * k;
+    // `&*s` lets the compiler hand on address and length in registers.
     let n = u16_at(&*s, at + 2) as usize;
     if !length_fits(column, n) {
         return false;

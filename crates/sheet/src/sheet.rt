@@ -61,13 +61,14 @@ pub fn read_sheet(s: &[u8], most: usize, numbers: &mut [u16]) -> SheetResult
     if RECORD_SIZE * (most + 1) < size {
         return SheetResult::Err(ErrorKind::Malformed);
     }
-    let head = match read_head(s) {
+    // `&*s` lets the compiler hand on address and length in registers.
+    let head = match read_head(&*s) {
         HeadResult::Ok(h) => h,
         HeadResult::Err(e) => return SheetResult::Err(e),
     };
     let column = head.column;
     let operator = head.operator;
-    let count = walk(s, column, 0, 0, numbers);
+    let count = walk(&*s, column, 0, 0, numbers);
     if count == MALFORMED_CHAIN {
         return SheetResult::Err(ErrorKind::Malformed);
     }

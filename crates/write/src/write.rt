@@ -161,7 +161,8 @@ pub fn put_string(d: &mut [u8], k: usize, next: u16, bs: &[u8])
     let at = RECORD_SIZE * k;
     let n = bs.len();
     put_header(d, at, next, n as u16);
-    put_bytes(d, at + HEADER_SIZE, bs);
+    // `&*bs` lets the compiler hand on address and length in registers.
+    put_bytes(d, at + HEADER_SIZE, &*bs);
     put_zeros(d, at + HEADER_SIZE + n, CONTENT_SIZE - n);
 }
 

@@ -34,14 +34,14 @@ put-numbers-requires c κs =
     let inside = set-inside (p .0) (p .1 .0) (p .1 .1 .0) (p .1 .1 .1) (told e ∙ n .n .given .1) (filled e) in
     (omega (arith, few n, p .1 .0 .ready .room), (few n, (omega (arith, few n, filled e .size), inside)))
 
-add-t26 : tie.Need-add-t26
-add-t26 c = let h = few (c .before .before .before .before .before .before) in search needs
+add-t22 : tie.Need-add-t22
+add-t22 c = let h = few (c .before .before .before .before .before .before) in search needs
 
-cast-t27 : tie.Need-cast-t27
-cast-t27 c = let h = few (c .before .before .before .before .before .before) in search needs
+cast-t23 : tie.Need-cast-t23
+cast-t23 c = let h = few (c .before .before .before .before .before .before) in search needs
 
-mul-t28 : tie.Need-mul-t28
-mul-t28 c = let h = few (c .before .before .before .before .before .before) in search needs
+mul-t24 : tie.Need-mul-t24
+mul-t24 c = let h = few (c .before .before .before .before .before .before) in search needs
 
 returns : tie.Need-returns
 returns c =
@@ -67,9 +67,9 @@ project-set-spec =
     (search needs)
     (search needs)
     put-numbers-requires
-    add-t26
-    cast-t27
-    mul-t28
+    add-t22
+    cast-t23
+    mul-t24
     returns
     (search needs)
     returns-2)

@@ -39,14 +39,14 @@ put-strings-requires c κs =
     let parts = collected-parts (setAt (a .x) (now (a .s)) (now (a .numbers))) (e .0) _ _ _ (e .1 .0) _ (k .n .given .1) .1 in
     (parts, (few k, omega (arith, few k, s .pre .1 .0 .ready .room)))
 
-add-t30 : tie.Need-add-t30
-add-t30 c = record { fits = omega (arith, few (c .before .before .before .before .before .before .before)) }
+add-t24 : tie.Need-add-t24
+add-t24 c = record { fits = omega (arith, few (c .before .before .before .before .before .before .before)) }
 
-cast-t31 : tie.Need-cast-t31
-cast-t31 c = record { fits = omega (arith, few (c .before .before .before .before .before .before .before)) }
+cast-t25 : tie.Need-cast-t25
+cast-t25 c = record { fits = omega (arith, few (c .before .before .before .before .before .before .before)) }
 
-mul-t32 : tie.Need-mul-t32
-mul-t32 c = record { fits = omega (arith, few (c .before .before .before .before .before .before .before)) }
+mul-t26 : tie.Need-mul-t26
+mul-t26 c = record { fits = omega (arith, few (c .before .before .before .before .before .before .before)) }
 
 returns : tie.Need-returns
 returns c =
@@ -80,9 +80,9 @@ project-set-spec =
     slice-aggregate-put-strings
     slice-aggregate-put-strings-2
     put-strings-requires
-    add-t30
-    cast-t31
-    mul-t32
+    add-t24
+    cast-t25
+    mul-t26
     returns
     (search needs)
     returns-2)
