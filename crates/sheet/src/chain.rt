@@ -38,7 +38,7 @@ fn literal_after(s: &[u8], column: PrimitiveType, at: usize) -> usize
 
 // The literals after record `at` on its chain: each is tested, and its number goes into `numbers`, after the first `filled`.
 // Gives their count, the first `filled` included: a plain number, since an enum would be copied at every step.
-// Two at each call: so deep a recursion as one for each literal would leave the returns that a processor predicts.
+// Two at each call: a processor predicts only so many returns, and one call for each of 64 literals would be too deep.
 pub fn walk(s: &[u8], column: PrimitiveType, at: usize, filled: usize, numbers: &mut [u16]) -> usize
     requires { ⌜ length (now s) ≤ recordSize * suc holdsLimit ⌝ }
     requires { ⌜ at < recordCount (now s) ⌝ }
@@ -63,5 +63,6 @@ pub fn walk(s: &[u8], column: PrimitiveType, at: usize, filled: usize, numbers: 
         return MALFORMED_CHAIN;
     }
     numbers[filled + 1] = m as u16;
+    // `&*s` copies address and length one by one, which the next call need not wait for.
     walk(&*s, column, m, filled + 2, numbers)
 }

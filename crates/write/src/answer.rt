@@ -17,6 +17,7 @@ ghost use Rattle.values.specs.Types.{contentSize, layout, inType};
 ghost use Rattle.values.specs.Words.{over};
 ghost use Rattle.sheet.specs.ReadAnswers.{Parts, partsAt};
 ghost use Rattle.sheet.specs.Records.{recordSize};
+ghost use Rattle.sheet.specs.Sheets.{holdsLimit};
 ghost use Rattle.write.specs.Written.{literalRecords, answerBytes, numberBytes};
 
 // The head alone.
@@ -61,7 +62,7 @@ pub fn put_one_string(d: &mut [u8], operator: PredicateOperator, to: PrimitiveTy
 
 // The number of the record after record k, where n literals are written; 0 after the last.
 fn next_after(k: usize, n: usize) -> u16
-    requires { ⌜ n ≤ 128 ⌝ }
+    requires { ⌜ n ≤ holdsLimit ⌝ }
     ensures { λ r. ⌜ r ≡ cond (ltb k n) (k + 1) 0 ⌝ }
 {
     if k < n { (k + 1) as u16 } else { 0 }
@@ -70,7 +71,7 @@ fn next_after(k: usize, n: usize) -> u16
 // The first n numbers of a set in records 1, 2, ..
 fn put_number_records(d: &mut [u8], to: PrimitiveType, set: &[i64], n: usize)
     requires { ⌜ recordSize * (n + 1) ≤ length (now d) ⌝ }
-    requires { ⌜ n ≤ 128 ⌝ }
+    requires { ⌜ n ≤ holdsLimit ⌝ }
     requires { ⌜ n ≤ length (now set) ⌝ }
     requires { ⌜ AllOf (λ (z : ℤ). inType to z ≡ true) (take n (now set)) ⌝ }
     ensures { λ _. ⌜ now (d .exit) ≡ over recordSize (literalRecords 1 (map (numberBytes (layout to)) (take n (now (set .entry))))) (now (d .entry)) ⌝ }
@@ -92,7 +93,7 @@ pub fn put_numbers(
     n: usize,
 )
     requires { ⌜ recordSize * (n + 1) ≤ length (now d) ⌝ }
-    requires { ⌜ n ≤ 128 ⌝ }
+    requires { ⌜ n ≤ holdsLimit ⌝ }
     requires { ⌜ n ≤ length (now set) ⌝ }
     requires { ⌜ AllOf (λ (z : ℤ). inType to z ≡ true) (take n (now set)) ⌝ }
     ensures { λ _. ⌜ now (d .exit) ≡ over 0 (answerBytes operator to (map (numberBytes (layout to)) (take n (now (set .entry))))) (now (d .entry)) ⌝ }
@@ -104,7 +105,7 @@ pub fn put_numbers(
 // The same for beginnings of contents of a sheet, as many bytes as `sizes` has at each record's number.
 fn put_string_records(d: &mut [u8], s: &[u8], sizes: &[u8], set: &[u16], n: usize)
     requires { ⌜ Parts (now s) (now sizes) (now set) n ⌝ }
-    requires { ⌜ n ≤ 128 ⌝ }
+    requires { ⌜ n ≤ holdsLimit ⌝ }
     requires { ⌜ recordSize * (n + 1) ≤ length (now d) ⌝ }
     ensures { λ _. ⌜ now (d .exit) ≡ over recordSize (literalRecords 1 (partsAt (now (s .entry)) (now (sizes .entry)) (now (set .entry)) n)) (now (d .entry)) ⌝ }
 {
@@ -128,7 +129,7 @@ pub fn put_strings(
     n: usize,
 )
     requires { ⌜ Parts (now s) (now sizes) (now set) n ⌝ }
-    requires { ⌜ n ≤ 128 ⌝ }
+    requires { ⌜ n ≤ holdsLimit ⌝ }
     requires { ⌜ recordSize * (n + 1) ≤ length (now d) ⌝ }
     ensures { λ _. ⌜ now (d .exit) ≡ over 0 (answerBytes operator to (partsAt (now (s .entry)) (now (sizes .entry)) (now (set .entry)) n)) (now (d .entry)) ⌝ }
 {
