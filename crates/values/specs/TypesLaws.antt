@@ -49,17 +49,17 @@ pub type-number : (n : ℕ) (t : PrimitiveType) → find types n ≡ ok t → ty
 type-number n t e = found-number typeNumber types n t (refl, (refl, (refl, (refl, (refl, (refl, (refl, (refl, (refl, (refl, tt)))))))))) e
 
 -- ---- transforms
-abbrev pub transformNumber : Transform → ℕ
-transformNumber Identity = 0
-transformNumber (Truncate width) = 1
-transformNumber Year = 2
-transformNumber Month = 3
-transformNumber Day = 4
-transformNumber Hour = 5
-transformNumber Void = 6
-transformNumber Unknown = 7
+abbrev pub transformCode : Transform → ℕ
+transformCode Identity = 0
+transformCode (Truncate width) = 1
+transformCode Year = 2
+transformCode Month = 3
+transformCode Day = 4
+transformCode Hour = 5
+transformCode Void = 6
+transformCode Unknown = 7
 
-pub transform-found : (t : Transform) → transformOf (transformNumber t) (widthOf t) ≡ ok t
+pub transform-found : (t : Transform) → transformOf (transformCode t) (widthOf t) ≡ ok t
 unfolding transformOf
 transform-found Identity = refl
 transform-found (Truncate width) = rw (eq-eqb width width refl)
@@ -71,7 +71,7 @@ transform-found Void = refl
 transform-found Unknown = refl
 
 -- what a number and a width name has that number and that width
-pub transform-numbers : (n w : ℕ) (t : Transform) → transformOf n w ≡ ok t → (transformNumber t ≡ n) × (widthOf t ≡ w)
+pub transform-numbers : (n w : ℕ) (t : Transform) → transformOf n w ≡ ok t → (transformCode t ≡ n) × (widthOf t ≡ w)
 unfolding transformOf
 transform-numbers n w t e = go (find (transforms w) n) refl e
   where
@@ -80,10 +80,10 @@ transform-numbers n w t e = go (find (transforms w) n) refl e
     tested u false d e = (cc, cc)
 
     go : (r : Res Transform) → find (transforms w) n ≡ r → (r >>= λ u. need (eqb w (widthOf u)) Malformed >> ok u) ≡ ok t
-        → (transformNumber t ≡ n) × (widthOf t ≡ w)
+        → (transformCode t ≡ n) × (widthOf t ≡ w)
     go (ok u) d e =
         let h = tested u (eqb w (widthOf u)) refl e in
-        let own = found-number transformNumber (transforms w) n u (refl, (refl, (refl, (refl, (refl, (refl, (refl, (refl, tt)))))))) d in
+        let own = found-number transformCode (transforms w) n u (refl, (refl, (refl, (refl, (refl, (refl, (refl, (refl, tt)))))))) d in
         (rw (← h .0) own, rw (← h .0) (sym (h .1)))
     go (err k) d e = (cc, cc)
 
