@@ -14,12 +14,7 @@ pub fn holds(sheet: &[u8], value: &[u8]) -> Held
 {
     let mut numbers = [0; HOLDS_LIMIT];
     match read_sheet(sheet, HOLDS_LIMIT, &mut numbers) {
-        SheetResult::Ok(read) => {
-            let head = read.head;
-            let operator = head.operator;
-            let column = head.column;
-            test_value(sheet, &numbers, read.count, operator, column, value)
-        }
+        SheetResult::Ok(read) => test_value(read, sheet, &numbers, value),
         SheetResult::Err(e) => Held::Err(e),
     }
 }

@@ -4,6 +4,7 @@ use expr::test::bytes_meets;
 use expr::test::number_meets;
 use sheet::literal::content_of;
 use sheet::literal::number_of;
+use sheet::sheet::Sheet;
 use values::datatypes::PrimitiveType;
 use values::order::Ordering;
 use values::order::compare_bytes;
@@ -61,17 +62,14 @@ pub fn missing_holds(operator: PredicateOperator) -> bool
 }
 
 // Whether a present number meets an operator with those literals.
-pub fn number_holds(
-    s: &[u8],
-    numbers: &[u16],
-    count: usize,
-    operator: PredicateOperator,
-    column: PrimitiveType,
-    v: i64,
-) -> bool
-    requires { ⌜ Placed (layout column) (now s) (now numbers) count ⌝ }
-    ensures { λ r. ⌜ r ≡ presentHeld numberTests (arity operator) (numbersAt (layout column) (now (s .entry)) (now (numbers .entry)) count) v ⌝ }
+pub fn number_holds(x: Sheet, s: &[u8], numbers: &[u16], v: i64) -> bool
+    requires { ⌜ Placed (layout (x .head .column)) (now s) (now numbers) (x .count) ⌝ }
+    ensures { λ r. ⌜ r ≡ presentHeld numberTests (arity (x .head .operator)) (numbersAt (layout (x .head .column)) (now (s .entry)) (now (numbers .entry)) (x .count)) v ⌝ }
 {
+    let head = x.head;
+    let operator = head.operator;
+    let column = head.column;
+    let count = x.count;
     match operator {
         PredicateOperator::IsNull => false,
         PredicateOperator::NotNull => true,
@@ -90,17 +88,14 @@ pub fn number_holds(
 }
 
 // Whether a present byte string meets an operator with those literals.
-pub fn bytes_holds(
-    s: &[u8],
-    numbers: &[u16],
-    count: usize,
-    operator: PredicateOperator,
-    column: PrimitiveType,
-    v: &[u8],
-) -> bool
-    requires { ⌜ Placed (layout column) (now s) (now numbers) count ⌝ }
-    ensures { λ r. ⌜ r ≡ presentHeld bytesTests (arity operator) (contentsAt (now (s .entry)) (now (numbers .entry)) count) (now (v .entry)) ⌝ }
+pub fn bytes_holds(x: Sheet, s: &[u8], numbers: &[u16], v: &[u8]) -> bool
+    requires { ⌜ Placed (layout (x .head .column)) (now s) (now numbers) (x .count) ⌝ }
+    ensures { λ r. ⌜ r ≡ presentHeld bytesTests (arity (x .head .operator)) (contentsAt (now (s .entry)) (now (numbers .entry)) (x .count)) (now (v .entry)) ⌝ }
 {
+    let head = x.head;
+    let operator = head.operator;
+    let column = head.column;
+    let count = x.count;
     match operator {
         PredicateOperator::IsNull => false,
         PredicateOperator::NotNull => true,

@@ -3,12 +3,12 @@ use crate::held::Held;
 use crate::literals::bytes_holds;
 use crate::literals::missing_holds;
 use crate::literals::number_holds;
-use expr::operator::PredicateOperator;
 use sheet::content::literals_utf8;
 use sheet::content::number_in;
 use sheet::content::value_utf8;
-use sheet::literal::content_of;
+use sheet::sheet::Sheet;
 use sheet::value::ValueResult;
+use sheet::value::content_in;
 use sheet::value::read_value;
 use values::datatypes::PrimitiveType;
 use values::error::ErrorKind;
@@ -34,114 +34,77 @@ fn answered(yes: bool) -> Held
 }
 
 // Whether a number, which may be missing, meets an operator with those literals.
-fn test_number(
-    s: &[u8],
-    numbers: &[u16],
-    count: usize,
-    operator: PredicateOperator,
-    column: PrimitiveType,
-    present: bool,
-    value: &[u8],
-) -> Held
-    requires { ⌜ Placed (layout column) (now s) (now numbers) count ⌝ }
-    requires { ⌜ (present ≡ true → NumberType column (length (now value))) ⌝ }
-    ensures { λ r. ⌜ r ≡ heldAs (ok (numbersHeld (layout column) (arity operator) (contentsAt (now (s .entry)) (now (numbers .entry)) count) (row present (now (value .entry))))) ⌝ }
+fn test_number(x: Sheet, s: &[u8], numbers: &[u16], present: bool, value: &[u8]) -> Held
+    requires { ⌜ Placed (layout (x .head .column)) (now s) (now numbers) (x .count) ⌝ }
+    requires { ⌜ (present ≡ true → NumberType (x .head .column) (length (now value))) ⌝ }
+    ensures { λ r. ⌜ r ≡ heldAs (ok (numbersHeld (layout (x .head .column)) (arity (x .head .operator)) (contentsAt (now (s .entry)) (now (numbers .entry)) (x .count)) (row present (now (value .entry))))) ⌝ }
 {
+    let head = x.head;
+    let operator = head.operator;
     if present {
-        answered(number_holds(s, numbers, count, operator, column, number_in(value)))
+        answered(number_holds(x, s, numbers, number_in(value)))
     } else {
         answered(missing_holds(operator))
     }
 }
 
 // The same for a byte string.
-fn test_bytes(
-    s: &[u8],
-    numbers: &[u16],
-    count: usize,
-    operator: PredicateOperator,
-    column: PrimitiveType,
-    present: bool,
-    value: &[u8],
-) -> Held
-    requires { ⌜ Placed (layout column) (now s) (now numbers) count ⌝ }
-    ensures { λ r. ⌜ r ≡ heldAs (ok (held bytesTests (arity operator) (contentsAt (now (s .entry)) (now (numbers .entry)) count) (row present (now (value .entry))))) ⌝ }
+fn test_bytes(x: Sheet, s: &[u8], numbers: &[u16], present: bool, value: &[u8]) -> Held
+    requires { ⌜ Placed (layout (x .head .column)) (now s) (now numbers) (x .count) ⌝ }
+    ensures { λ r. ⌜ r ≡ heldAs (ok (held bytesTests (arity (x .head .operator)) (contentsAt (now (s .entry)) (now (numbers .entry)) (x .count)) (row present (now (value .entry))))) ⌝ }
 {
+    let head = x.head;
+    let operator = head.operator;
     if present {
-        answered(bytes_holds(s, numbers, count, operator, column, value))
+        // `&*s` lets the compiler hand on address and length in registers.
+        answered(bytes_holds(x, &*s, &*numbers, &*value))
     } else {
         answered(missing_holds(operator))
     }
 }
 
 // The same for a String, whose literals are to be UTF-8, and then its value.
-fn test_string(
-    s: &[u8],
-    numbers: &[u16],
-    count: usize,
-    operator: PredicateOperator,
-    column: PrimitiveType,
-    present: bool,
-    value: &[u8],
-) -> Held
-    requires { ⌜ Placed (layout column) (now s) (now numbers) count ⌝ }
-    ensures { λ r. ⌜ r ≡ heldAs (bytesHeld String (arity operator) (contentsAt (now (s .entry)) (now (numbers .entry)) count) (row present (now (value .entry)))) ⌝ }
+fn test_string(x: Sheet, s: &[u8], numbers: &[u16], present: bool, value: &[u8]) -> Held
+    requires { ⌜ Placed (layout (x .head .column)) (now s) (now numbers) (x .count) ⌝ }
+    ensures { λ r. ⌜ r ≡ heldAs (bytesHeld String (arity (x .head .operator)) (contentsAt (now (s .entry)) (now (numbers .entry)) (x .count)) (row present (now (value .entry)))) ⌝ }
 {
-    if !literals_utf8(s, numbers, count, column) {
+    let head = x.head;
+    let column = head.column;
+    if !literals_utf8(s, numbers, x.count, column) {
         return Held::Err(ErrorKind::NotUtf8);
     }
     if !value_utf8(present, value) {
         return Held::Err(ErrorKind::NotUtf8);
     }
-    test_bytes(s, numbers, count, operator, column, present, value)
+    test_bytes(x, s, numbers, present, value)
 }
 
 // Whether a value of the column's type, which may be missing, meets an operator with those literals.
-fn test_row(
-    s: &[u8],
-    numbers: &[u16],
-    count: usize,
-    operator: PredicateOperator,
-    column: PrimitiveType,
-    present: bool,
-    value: &[u8],
-) -> Held
-    requires { ⌜ Placed (layout column) (now s) (now numbers) count ⌝ }
-    requires { ⌜ (present ≡ true → fits (layout column) (length (now value)) ≡ true) ⌝ }
-    ensures { λ r. ⌜ r ≡ heldAs (heldOf column (arity operator) (contentsAt (now (s .entry)) (now (numbers .entry)) count) (row present (now (value .entry)))) ⌝ }
+fn test_row(x: Sheet, s: &[u8], numbers: &[u16], present: bool, value: &[u8]) -> Held
+    requires { ⌜ Placed (layout (x .head .column)) (now s) (now numbers) (x .count) ⌝ }
+    requires { ⌜ (present ≡ true → fits (layout (x .head .column)) (length (now value)) ≡ true) ⌝ }
+    ensures { λ r. ⌜ r ≡ heldAs (heldOf (x .head .column) (arity (x .head .operator)) (contentsAt (now (s .entry)) (now (numbers .entry)) (x .count)) (row present (now (value .entry)))) ⌝ }
 {
+    let head = x.head;
+    let column = head.column;
     match column {
-        PrimitiveType::String => test_string(s, numbers, count, operator, column, present, value),
-        PrimitiveType::Binary => test_bytes(s, numbers, count, operator, column, present, value),
-        _ => test_number(s, numbers, count, operator, column, present, value),
+        PrimitiveType::String => test_string(x, &*s, &*numbers, present, &*value),
+        PrimitiveType::Binary => test_bytes(x, &*s, &*numbers, present, &*value),
+        _ => test_number(x, &*s, &*numbers, present, &*value),
     }
 }
 
 // The same for the value in a record.
-pub fn test_value(
-    s: &[u8],
-    numbers: &[u16],
-    count: usize,
-    operator: PredicateOperator,
-    column: PrimitiveType,
-    value: &[u8],
-) -> Held
-    requires { ⌜ Placed (layout column) (now s) (now numbers) count ⌝ }
-    ensures { λ r. ⌜ r ≡ heldAs (valueHeld column (arity operator) (contentsAt (now (s .entry)) (now (numbers .entry)) count) (now (value .entry))) ⌝ }
+pub fn test_value(x: Sheet, s: &[u8], numbers: &[u16], value: &[u8]) -> Held
+    requires { ⌜ Placed (layout (x .head .column)) (now s) (now numbers) (x .count) ⌝ }
+    ensures { λ r. ⌜ r ≡ heldAs (valueHeld (x .head .column) (arity (x .head .operator)) (contentsAt (now (s .entry)) (now (numbers .entry)) (x .count)) (now (value .entry))) ⌝ }
 {
-    match read_value(value, column) {
-        ValueResult::Missing => test_row(s, numbers, count, operator, column, false, value),
-        ValueResult::Present(_) => {
-            test_row(
-                s,
-                numbers,
-                count,
-                operator,
-                column,
-                true,
-                content_of(value, 0),
-            )
-        }
-        ValueResult::Err(e) => Held::Err(e),
-    }
+    let head = x.head;
+    let column = head.column;
+    let present = match read_value(value, column) {
+        ValueResult::Err(e) => return Held::Err(e),
+        ValueResult::Missing => false,
+        ValueResult::Present(_) => true,
+    };
+    test_row(x, s, numbers, present, content_in(value, present))
 }

@@ -7,13 +7,13 @@ use Rattle.api.proofs.holds.holds.Tie as tie
 
 test-value-requires : tie.Need-test-value-requires
 test-value-requires c κs =
-    let k = c .before .before .before in
+    let k = c .before .before in
     let e = k .before .before .before .read-sheet .ensures in
     placed-told (sheet-told _ _ (e .0) (e .1) (k .read .given .1))
 
 returns : tie.Need-returns
 returns c =
-    let k = c .before .before .before .before in
+    let k = c .before .before .before in
     let e = k .before .before .before .read-sheet .ensures in
     value-tested (sheet-told _ _ (e .0) (e .1) (k .read .given .1)) _ (c .test-value .ensures)
 

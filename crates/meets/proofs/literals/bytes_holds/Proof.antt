@@ -11,14 +11,14 @@ use Rattle.meets.proofs.literals.bytes_holds.Tie as tie
 
 returns : tie.Need-returns
 returns c =
-    let a = c .before .before .before .before .before .args in
+    let a = c .before .before .before .before .before .before .args in
     without-literal
     bytesTests
-    (a .operator)
+    (a .x .head .operator)
     (c .before .match .keys7)
     (contentAt (now (a .s)))
     (now (a .numbers))
-    (a .count)
+    (a .x .count)
     (now (a .v))
     (c .if1 .taken)
 
@@ -27,22 +27,22 @@ cast-k c = omega (arith, c .shared-slice-known4 .given 0)
 
 content-of-requires : tie.Need-content-of-requires
 content-of-requires c κs =
-    let start = c .before .before .before .before .before .before in
+    let start = c .before .before .before .before .before .before .before in
     let e = start .pre .each 0 (omega arith) in
     (e .there, e .short)
 
 returns-8 : tie.Need-returns-8
 returns-8 c =
     let k = c .before .before .before .before in
-    let start = k .before .before .before .before in
+    let start = k .before .before .before .before .before in
     let a = start .args in
     with-literal
     bytesTests
-    (a .operator)
+    (a .x .head .operator)
     (k .match .keys7)
     (contentAt (now (a .s)))
     (now (a .numbers))
-    (a .count)
+    (a .x .count)
     (now (a .v))
     (c .before .before .before .if1 .left)
     (start .pre .room)

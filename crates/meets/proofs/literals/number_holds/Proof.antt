@@ -13,14 +13,14 @@ use Rattle.meets.proofs.literals.number_holds.Tie as tie
 
 returns : tie.Need-returns
 returns c =
-    let a = c .before .before .before .before .args in
+    let a = c .before .before .before .before .before .args in
     without-literal
     numberTests
-    (a .operator)
+    (a .x .head .operator)
     (c .before .match .keys7)
-    (numberAt (layout (a .column)) (now (a .s)))
+    (numberAt (layout (a .x .head .column)) (now (a .s)))
     (now (a .numbers))
-    (a .count)
+    (a .x .count)
     (a .v)
     (c .if1 .taken)
 
@@ -29,32 +29,32 @@ cast-k c = omega (arith, c .shared-slice-known3 .given 0)
 
 number-of-requires : tie.Need-number-of-requires
 number-of-requires c κs =
-    let start = c .before .before .before .before .before in
+    let start = c .before .before .before .before .before .before in
     let e = start .pre .each 0 (omega arith) in
     e .there
 
 returns-6 : tie.Need-returns-6
 returns-6 c =
-    let start = c .before .before .before .before .before in
+    let start = c .before .before .before .before .before .before in
     member numberTests _ (start .args .v) (c .before .enum-told5 .given .1) (rw (back (start .fits .v)) at (c .number-among .ensures))
 
 returns-7 : tie.Need-returns-7
 returns-7 c =
-    let start = c .before .before .before .before .before in
+    let start = c .before .before .before .before .before .before in
     no-member numberTests _ (start .args .v) (c .before .enum-told6 .given .1) (rw (back (start .fits .v)) at (c .number-among2 .ensures))
 
 returns-8 : tie.Need-returns-8
 returns-8 c =
     let k = c .before .before .before .before in
-    let start = k .before .before .before in
+    let start = k .before .before .before .before in
     let a = start .args in
     with-literal
     numberTests
-    (a .operator)
+    (a .x .head .operator)
     (k .match .keys7)
-    (numberAt (layout (a .column)) (now (a .s)))
+    (numberAt (layout (a .x .head .column)) (now (a .s)))
     (now (a .numbers))
-    (a .count)
+    (a .x .count)
     (a .v)
     (c .before .before .before .if1 .left)
     (start .pre .room)

@@ -11,17 +11,18 @@ use Rattle.meets.proofs.test.test_number.Statement.{statement}
 use Rattle.meets.proofs.test.test_number.Tie as tie
 
 number-in-requires : tie.Need-number-in-requires
-number-in-requires c κs = c .before .before .before .before .pre .1 (c .if1 .taken) .size
+number-in-requires c κs = c .before .before .before .before .before .pre .1 (c .if1 .taken) .size
 
 returns : tie.Need-returns
 returns c =
     let h = c .before in
     let n = h .before .number-in in
     let t = h .before .before in
-    let start = t .before .before .before .before in
+    let start = t .before .before .before .before .before in
     let a = start .args in
     let type = start .pre .1 (t .if1 .taken) in
-    let e = number-given (start .pre .0) (arity (a .operator)) (now (a .value)) (type .is) (ints.ok _ (n .ok)) (n .ensures) (h .number-holds .ensures) in
+    let o = arity (a .x .head .operator) in
+    let e = number-given (start .pre .0) o (now (a .value)) (type .is) (ints.ok _ (n .ok)) (n .ensures) (h .number-holds .ensures) in
     rw (t .if1 .taken) (c .answered .ensures ∙ ap (λ b. heldAs (ok b)) e)
 
 returns-2 : tie.Need-returns-2

@@ -7,8 +7,8 @@ use Rattle.meets.proofs.test.test_row.Tie as tie
 
 test-number-requires : tie.Need-test-number-requires
 test-number-requires c κs =
-    let start = c .before .before .before .before in
-    (start .pre .0, λ h. number-sized (start .args .column) (c .match .keys3) _ (start .pre .1 h))
+    let start = c .before .before .before .before .before in
+    (start .pre .0, λ h. number-sized (start .args .x .head .column) (c .match .keys3) _ (start .pre .1 h))
 
 returns : tie.Need-returns
 unfolding heldOf
@@ -21,9 +21,9 @@ returns-2 c = rw (c .before .enum-told2 .given .1) (c .test-bytes .ensures)
 returns-3 : tie.Need-returns-3
 unfolding heldOf
 returns-3 c =
-    let start = c .before .before .before .before .before in
+    let start = c .before .before .before .before .before .before in
     let a = start .args in
-    let t = number-type (a .column) (c .before .match .keys3) in
+    let t = number-type (a .x .head .column) (c .before .match .keys3) in
     rw (t .1 .is) (rw (t .1 .is) at (c .test-number .ensures))
 
 pub test-row-spec : {M : Type 1} → statement M
