@@ -1,11 +1,12 @@
 -- What the answers of `read_sheet` and `read_value` tell of their definitions. Assumes nothing.
 use Prim.Native.Nat.{ℕ, _≤_}
 use native.Mathlib.Omega.{arith}
+use mathlib.Core.Bool.{Bool, true, false, cond, false≢true}
 use mathlib.Core.List.{List, []}
 use mathlib.Core.Path.{_≡_, refl, ap, _∙_}
 use lib.ListN.{length, take, length-map, length-take}
 use Rattle.values.specs.OutcomeLaws.{ok-not-err}
-use Rattle.values.specs.Outcomes.{Res, ok, err, Row, missing, present}
+use Rattle.values.specs.Outcomes.{Res, ok, err, Row, missing, present, row}
 use Rattle.values.specs.Types.{layout}
 use Rattle.values.specs.declared.datatypes.PrimitiveType.{PrimitiveType}
 use Rattle.values.specs.declared.error.ErrorKind.{ErrorKind}
@@ -21,6 +22,12 @@ use Rattle.sheet.specs.declared.value.ValueResult.{ValueResult}
 use Rattle.sheet.specs.declared.value.ValueResult.the-variants as value-result
 
 -- ---- a value
+
+-- a row that was read, and where its content is
+pub record RowRead (column : PrimitiveType) (v : List ℕ) (there : Bool) : Type 0 where
+  pub is : value (layout column) v ≡ ok (row there (cond there (contentAt v 0) []))
+  pub content : there ≡ true → ValueContent column v (contentAt v 0)
+
 module _ (column : PrimitiveType) (v : List ℕ) {r : ValueResult} (d : r ≡ valueResult (value (layout column) v)) where
   pub value-refused : {e : ErrorKind} → r ≡ value-result.Err e → value (layout column) v ≡ err e
   value-refused {e} is = go (value (layout column) v) d
@@ -30,16 +37,19 @@ module _ (column : PrimitiveType) (v : List ℕ) {r : ValueResult} (d : r ≡ va
       go (ok (present bs)) d = cc
       go (err k) d = cc
 
-  pub value-missing : r ≡ value-result.Missing → value (layout column) v ≡ ok missing
-  value-missing is = go (value (layout column) v) d
+  pub missing-read : r ≡ value-result.Missing → RowRead column v false
+  missing-read is = record { is = go (value (layout column) v) d; content = λ h. absurd (false≢true h) }
     where
       go : (x : Res (Row (List ℕ))) → r ≡ valueResult x → x ≡ ok missing
       go (ok missing) d = cc
       go (ok (present bs)) d = cc
       go (err k) d = cc
 
-  pub value-present : {n : ℕ} → r ≡ value-result.Present n → (bs : List ℕ) × (value (layout column) v ≡ ok (present bs)) × ValueContent column v bs
-  value-present {n} is = let p = go (value (layout column) v) d in (p .0, p .1, value-content column v (p .0) (p .1))
+  pub present-read : {n : ℕ} → r ≡ value-result.Present n → RowRead column v true
+  present-read {n} is =
+      let p = go (value (layout column) v) d in
+      let c = value-content column v (p .0) (p .1) in
+      record { is = rw (c .is) (p .1); content = λ h. rw (c .is) c }
     where
       go : (x : Res (Row (List ℕ))) → r ≡ valueResult x → (bs : List ℕ) × (x ≡ ok (present bs))
       go (ok missing) d = ([], cc)
