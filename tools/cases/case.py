@@ -1,0 +1,37 @@
+"""A case, and the list to which each group adds its own, answered by the model."""
+import collections
+
+import model
+from model import SHEET_ROOM, VALUE_ROOM
+
+HOLDS, PROJECT, STRICT_PROJECT, TRANSFORM, TEXT = range(5)
+Case = collections.namedtuple("Case", "group routine number column transform width first second lent")
+
+
+class Cases:
+    """The cases so far. Where no length of the result buffer is given, it is the least that will do, or a little more."""
+
+    def __init__(self):
+        self.all = []
+
+    def lent(self, least):
+        return least + (0, 1, 44)[len(self.all) % 3]
+
+    def holds(self, group, sheet, value):
+        self.all.append(Case(group, HOLDS, model.holds(sheet, value), 0, 0, 0, sheet, value, 0))
+
+    def project(self, group, strict, sheet, lent=None, told=None):
+        lent = self.lent(SHEET_ROOM) if lent is None else lent
+        number, result = model.project(strict, sheet, lent)
+        assert told in (None, (number, result)), (group, sheet, told)
+        self.all.append(Case(group, STRICT_PROJECT if strict else PROJECT, number, 0, 0, 0, sheet, result, lent))
+
+    def both(self, group, sheet, lent=None):
+        for strict in (False, True):
+            self.project(group, strict, sheet, lent)
+
+    def transform(self, group, column, transform, width, value, lent=None, told=None):
+        lent = self.lent(VALUE_ROOM) if lent is None else lent
+        number, result = model.transform(column, transform, width, value, lent)
+        assert told in (None, (number, result)), (group, column, transform, width, value, told)
+        self.all.append(Case(group, TRANSFORM, number, column, transform, width, value, result, lent))

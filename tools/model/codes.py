@@ -1,0 +1,49 @@
+"""Document 01's numbers: sizes, types, transforms, operators and refusals; and a type's literals as bytes."""
+
+RECORD, CONTENT, MISSING = 64, 60, 65535
+SHEET_RECORDS, ANSWER_RECORDS = 65, 129  # of a sheet to project; of an answer sheet, and of one to test a value with
+SHEET_ROOM, VALUE_ROOM = RECORD * ANSWER_RECORDS, RECORD
+
+INT, LONG, DATE, TIME, TS, TSTZ, TSNS, TSTZNS, STRING, BINARY = TYPES = range(1, 11)
+IDENTITY, TRUNCATE, YEAR, MONTH, DAY, HOUR, VOID, UNKNOWN = TRANSFORMS = range(0, 8)
+IS_NULL, NOT_NULL, IS_NAN, NOT_NAN = UNARY = range(101, 105)
+LT, LE, GT, GE, EQ, NOT_EQ, STARTS, NOT_STARTS = ONE_LITERAL = range(201, 209)
+IN, NOT_IN = SETS = range(301, 303)
+OPERATORS = [*UNARY, *ONE_LITERAL, *SETS]
+
+MICROS, NANOS = (TS, TSTZ), (TSNS, TSTZNS)
+I32 = range(-(2**31), 2**31)
+I64 = range(-(2**63), 2**63)
+
+
+class Refused(Exception):
+    """One of the answers 3 to 8."""
+
+    def __init__(self, number):
+        super().__init__(number)
+        self.number = number
+
+
+def need(test, number):
+    if not test:
+        raise Refused(number)
+
+
+def is_number(column):
+    return column <= TSTZNS
+
+
+def range_of(column):
+    return I32 if column in (INT, DATE) else I64
+
+
+def size(column):
+    return {INT: 4, DATE: 4, STRING: None, BINARY: None}.get(column, 8)
+
+
+def read_literal(column, bs):
+    return int.from_bytes(bs, "little", signed=True) if is_number(column) else bs
+
+
+def literal_bytes(column, literal):
+    return literal.to_bytes(size(column), "little", signed=True) if is_number(column) else literal
