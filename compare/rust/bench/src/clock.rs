@@ -3,7 +3,7 @@
 
 use std::time::Duration;
 
-pub const ROUNDS: usize = 15;
+pub const ROUNDS: usize = 3;
 pub const ROUND: Duration = Duration::from_millis(20);
 
 /// C's `struct timespec` and the number of the thread's own clock, as Linux has them on x86-64.
