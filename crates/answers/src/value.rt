@@ -149,7 +149,7 @@ pub fn transform_value(
     let present = match read_value(value, column) {
         ValueResult::Err(e) => return Answer::Err(e),
         ValueResult::Missing => false,
-        ValueResult::Present(_) => true,
+        ValueResult::Present => true,
     };
     transform_row(column, transform, present, content_in(value, present), out)
 }

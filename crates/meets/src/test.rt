@@ -104,7 +104,7 @@ pub fn test_value(x: Sheet, s: &[u8], numbers: &[u16], value: &[u8]) -> Held
     let present = match read_value(value, column) {
         ValueResult::Err(e) => return Held::Err(e),
         ValueResult::Missing => false,
-        ValueResult::Present(_) => true,
+        ValueResult::Present => true,
     };
     test_row(x, s, numbers, present, content_in(value, present))
 }

@@ -1,21 +1,20 @@
 -- What each return of the code that reads a value record comes to. Assumes nothing.
-use Prim.Native.Nat.{ℕ, _≤_}
+use Prim.Native.Nat.{ℕ}
 use native.Mathlib.Omega.{arith}
 use mathlib.Core.Bool.{Bool, true, false, cond}
 use mathlib.Core.List.{List}
 use mathlib.Core.Path.{_≡_, refl, sym, ap}
 use lib.Dec.{eqb}
-use lib.ListN.{length, drop, length-drop}
-use lib.Seq.{take-all, length-take-le}
+use lib.ListN.{length}
+use lib.Seq.{take-all}
 use borrow.Author.Tests.{eq-eqb, ne-eqb}
 use Rattle.values.specs.Outcomes.{Res, err, need, _>>_, Row}
 use Rattle.values.specs.Types.{layout, contentSize}
-use Rattle.values.specs.Words.{field, zeroAt}
+use Rattle.values.specs.Words.{zeroAt}
 use Rattle.values.specs.declared.datatypes.PrimitiveType.{PrimitiveType}
 use Rattle.values.specs.declared.error.ErrorKind.the-variants.{Malformed}
 use Rattle.sheet.specs.ReadAnswers.{isOk, valueResult}
-use Rattle.sheet.specs.RecordLaws.{fits-room}
-use Rattle.sheet.specs.PartLaws.{content-by, content-fits}
+use Rattle.sheet.specs.PartLaws.{content-by}
 use Rattle.sheet.specs.Records.{headerSize, recordSize, nextIn, lengthIn, content, missingMark, value, recordAt}
 use Rattle.sheet.specs.declared.value.ValueResult.the-variants as value-result
 
@@ -58,9 +57,6 @@ module _ (t : PrimitiveType) {v : List ℕ} {n : ℕ} (o : Opened v n) where
     unfolding value
     not-present e = rw (eq-eqb (nextIn v) 0 (o .first), ← o .says, ne-eqb n missingMark other, content-by (layout t) v (here e))
 
-    pub present-read : isOk (content (layout t) (recordAt v 0)) ≡ true → value-result.Present n ≡ valueResult (value (layout t) v)
+    pub present-read : isOk (content (layout t) (recordAt v 0)) ≡ true → value-result.Present ≡ valueResult (value (layout t) v)
     unfolding value
-    present-read e =
-        let short : n ≤ contentSize = rw (o .says) (fits-room t (lengthIn v) (content-fits (layout t) v (here e))) in
-        let long : length (field headerSize n v) ≡ n = length-take-le n (drop headerSize v) (omega (arith, length-drop headerSize v, o .size)) in
-        rw (eq-eqb (nextIn v) 0 (o .first), content-by (layout t) v (here e), ← o .says, ne-eqb n missingMark other) (ap value-result.Present (sym long))
+    present-read e = rw (eq-eqb (nextIn v) 0 (o .first), ← o .says, ne-eqb n missingMark other, content-by (layout t) v (here e))

@@ -165,5 +165,5 @@ pub record LiteralsRead (s numbers : List ℕ) (x : sheets.Sheet) : Type 0 where
 -- of a value that is present, how many bytes it has
 abbrev pub valueResult : Res (Row (List ℕ)) → ValueResult
 valueResult (ok missing) = value-result.Missing
-valueResult (ok (present bs)) = value-result.Present (length bs)
+valueResult (ok (present bs)) = value-result.Present
 valueResult (err e) = value-result.Err e

@@ -45,8 +45,8 @@ module _ (column : PrimitiveType) (v : List ℕ) {r : ValueResult} (d : r ≡ va
       go (ok (present bs)) d = cc
       go (err k) d = cc
 
-  pub present-read : {n : ℕ} → r ≡ value-result.Present n → RowRead column v true
-  present-read {n} is =
+  pub present-read : r ≡ value-result.Present → RowRead column v true
+  present-read is =
       let p = go (value (layout column) v) d in
       let c = value-content column v (p .0) (p .1) in
       record { is = rw (c .is) (p .1); content = λ h. rw (c .is) c }

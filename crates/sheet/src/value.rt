@@ -18,10 +18,10 @@ ghost use Rattle.values.specs.Types.{layout, contentSize};
 ghost use Rattle.sheet.specs.Records.{recordSize, lengthIn, recordAt, value};
 ghost use Rattle.sheet.specs.ReadAnswers.{contentAt, valueResult};
 
-// Whether a value is missing, how many bytes it has, or why it is none.
+// Whether a value is missing or present, or why it is none.
 pub enum ValueResult {
     Missing,
-    Present(usize),
+    Present,
     Err(ErrorKind),
 }
 
@@ -42,7 +42,7 @@ pub fn read_value(v: &[u8], column: PrimitiveType) -> ValueResult
         return ValueResult::Err(ErrorKind::Malformed);
     }
     if literal_ok(v, 0, column) {
-        ValueResult::Present(n)
+        ValueResult::Present
     } else {
         ValueResult::Err(ErrorKind::Malformed)
     }
