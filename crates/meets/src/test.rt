@@ -87,11 +87,13 @@ fn test_row(x: Sheet, s: &[u8], numbers: &[u16], present: bool, value: &[u8]) ->
 {
     let head = x.head;
     let column = head.column;
-    match column {
-        PrimitiveType::String => test_string(x, &*s, &*numbers, present, &*value),
-        PrimitiveType::Binary => test_bytes(x, &*s, &*numbers, present, &*value),
-        _ => test_number(x, &*s, &*numbers, present, &*value),
+    if !column.is_bytes() {
+        return test_number(x, &*s, &*numbers, present, &*value);
     }
+    if let PrimitiveType::String = column {
+        return test_string(x, &*s, &*numbers, present, &*value);
+    }
+    test_bytes(x, &*s, &*numbers, present, &*value)
 }
 
 // The same for the value in a record.

@@ -5,5 +5,4 @@ pub mod SheetReads
 pub mod Values
 pub mod Walks
 pub mod Zeros
-pub mod Types
 pub mod Turns

@@ -1,8 +1,9 @@
 -- Records: what is read of one has a length that its type allows, and a record of another length is refused. Assumes nothing.
 use Prim.Native.Nat.{ℕ, zero, suc, _+_, _-_, _≤_}
 use native.Mathlib.Omega.{arith}
-use mathlib.Core.Bool.{Bool, true, false, cond}
+use mathlib.Core.Bool.{Bool, true, false, cond, true≢false}
 use mathlib.Core.List.{List, [], _∷_}
+use mathlib.Core.Logic.{_⊎_, inl, inr}
 use mathlib.Core.Path.{_≡_, refl, sym, ap, subst, _∙_}
 use lib.Dec.{eqb}
 use lib.ListN.{length, drop, length-drop}
@@ -10,12 +11,13 @@ use lib.Seq.{length-take-le}
 use borrow.Author.Tests.{leb-true, eqb-true, ne-eqb}
 use Rattle.values.specs.Outcomes.{ok, err, need, _>>_, Row, missing, present}
 use Rattle.values.specs.OutcomeLaws.{ok-inj, failing, passed, gone}
-use Rattle.values.specs.Types.{Layout, contentSize, layout, fits}
+use Rattle.values.specs.Types.{Layout, number, contentSize, layout, isBytes, fits}
 use Rattle.values.specs.Words.{field, zeroAt}
 use Rattle.values.specs.WordLaws.{AllBytes}
 use Rattle.values.specs.declared.datatypes.PrimitiveType.{PrimitiveType}
 use Rattle.values.specs.declared.datatypes.PrimitiveType.the-variants.{Int, Long, Date, Time, Timestamp, Timestamptz, TimestampNs, TimestamptzNs, String, Binary}
 use Rattle.values.specs.declared.error.ErrorKind.the-variants.{Malformed}
+use Rattle.sheet.specs.Contents.{NumberType}
 use Rattle.sheet.specs.Records.{headerSize, recordSize, nextIn, lengthIn, content, missingMark, missingValue, presentValue, value}
 
 -- no type allows more bytes than a record has room for
@@ -30,6 +32,22 @@ fits-room TimestampNs n h = omega (arith, eqb-true n 8 h)
 fits-room TimestamptzNs n h = omega (arith, eqb-true n 8 h)
 fits-room String n h = leb-true n contentSize h
 fits-room Binary n h = leb-true n contentSize h
+
+-- a type that is not of bytes allows one length, and its numbers are so long
+number-sized : {t : PrimitiveType} {n : ℕ} → layout t ≡ number n → (n ≡ 4) ⊎ (n ≡ 8) → (k : ℕ) → eqb k n ≡ true → NumberType t k
+number-sized {n = n} is size k e = rw (eqb-true k n e) (record { is = is; size = size })
+
+pub number-type : (t : PrimitiveType) (k : ℕ) → isBytes (layout t) ≡ false → fits (layout t) k ≡ true → NumberType t k
+number-type Int k h e = number-sized refl (inl refl) k e
+number-type Long k h e = number-sized refl (inr refl) k e
+number-type Date k h e = number-sized refl (inl refl) k e
+number-type Time k h e = number-sized refl (inr refl) k e
+number-type Timestamp k h e = number-sized refl (inr refl) k e
+number-type Timestamptz k h e = number-sized refl (inr refl) k e
+number-type TimestampNs k h e = number-sized refl (inr refl) k e
+number-type TimestamptzNs k h e = number-sized refl (inr refl) k e
+number-type String k h e = absurd (true≢false h)
+number-type Binary k h e = absurd (true≢false h)
 
 -- the bytes of a row, if it has any, have a length that the type allows
 abbrev pub FitsRow : PrimitiveType → Row (List ℕ) → Type 0

@@ -27,11 +27,10 @@ fn put_literal(d: &mut [u8], at: usize, s: &[u8], k: usize, column: PrimitiveTyp
     ensures { λ _. ⌜ now (d .exit) ≡ over at (literalText (layout column) (contentAt (now (s .entry)) k)) (now (d .entry)) ⌝ }
     ensures { λ r. ⌜ r ≡ at + length (literalText (layout column) (contentAt (now (s .entry)) k)) ⌝ }
 {
-    match column {
-        PrimitiveType::String => put_hexadecimal(d, at, content_of(s, k)),
-        PrimitiveType::Binary => put_hexadecimal(d, at, content_of(s, k)),
-        _ => put_decimal(d, at, number_of(s, k, column)),
+    if column.is_bytes() {
+        return put_hexadecimal(d, at, content_of(s, k));
     }
+    put_decimal(d, at, number_of(s, k, column))
 }
 
 // The literals in the records that the first count numbers name.

@@ -1,40 +1,60 @@
--- `test::test_row` meets its contract: each arm answers for its type, and `_` for the types of numbers. Assumes nothing.
-use Rattle.meets.specs.HeldAnswers.{heldOf}
-use Rattle.sheet.proofs.Types.{number-type, number-sized}
+-- `test::test_row` meets its contract: numbers are tested as such, and of byte strings a String also for UTF-8. Assumes nothing.
+use mathlib.Core.Bool.{true, false}
+use mathlib.Core.Path.{_≡_}
 use borrow.Author.Needs.{needs}
+use Rattle.values.specs.TestLaws.{called-no, called-yes}
+use Rattle.values.specs.Types.{layout, isBytes}
+use Rattle.values.specs.TypesLaws.{bytes-layout, number-layout}
+use Rattle.values.specs.declared.datatypes.PrimitiveType.{PrimitiveType}
+use Rattle.values.specs.declared.datatypes.PrimitiveType.the-variants.{String}
+use Rattle.expr.proofs.OtherTypes.{other-type}
+use Rattle.sheet.specs.RecordLaws.{number-type}
+use Rattle.meets.specs.HeldAnswers.{heldOf}
 use Rattle.meets.proofs.test.test_row.Statement.{statement}
 use Rattle.meets.proofs.test.test_row.Tie as tie
 
+abbrev start-of : tie.After-is-bytes → tie.Start
+start-of c = c .before .before .before .before .before
+
+abbrev column-of : tie.After-is-bytes → PrimitiveType
+column-of c = start-of c .args .x .head .column
+
+-- the column's kind, as it was told
+numbers : (c : tie.Then1) → isBytes (layout (column-of (c .before))) ≡ false
+numbers c = called-no _ _ (c .before .is-bytes .ensures) (c .if1 .taken)
+
+bytes : (c : tie.Else1) → isBytes (layout (column-of (c .before))) ≡ true
+bytes c = called-yes _ _ (c .before .is-bytes .ensures) (c .if1 .left)
+
 test-number-requires : tie.Need-test-number-requires
-test-number-requires c κs =
-    let start = c .before .before .before .before .before in
-    (start .pre .0, λ h. number-sized (start .args .x .head .column) (c .match .keys3) _ (start .pre .1 h))
+test-number-requires c κs = let start = start-of (c .before) in (start .pre .0, λ h. number-type _ _ (numbers c) (start .pre .1 h))
 
 returns : tie.Need-returns
 unfolding heldOf
-returns c = rw (c .before .enum-told .given .1) (c .test-string .ensures)
+returns c =
+    let n = number-layout (layout (column-of (c .before .before))) (numbers (c .before)) in
+    rw (n .1) (rw (n .1) at (c .test-number .ensures))
 
 returns-2 : tie.Need-returns-2
 unfolding heldOf
-returns-2 c = rw (c .before .enum-told2 .given .1) (c .test-bytes .ensures)
+returns-2 c = rw (c .before .enum-told .given .1) (c .test-string .ensures)
 
 returns-3 : tie.Need-returns-3
 unfolding heldOf
 returns-3 c =
-    let start = c .before .before .before .before .before .before in
-    let a = start .args in
-    let t = number-type (a .x .head .column) (c .before .match .keys3) in
-    rw (t .1 .is) (rw (t .1 .is) at (c .test-number .ensures))
+    let is = c .before .before in
+    let column = column-of (is .before) in
+    rw (bytes-layout column (bytes is), other-type column String tt (c .before .match .keys2)) (c .test-bytes .ensures)
 
 pub test-row-spec : {M : Type 1} → statement M
 test-row-spec =
     tie.close
     (tie.spec
-    (search needs)
-    (λ c κs. search needs)
-    (search needs)
     (λ c κs. search needs)
     test-number-requires
     returns
+    (search needs)
+    (λ c κs. search needs)
     returns-2
+    (λ c κs. search needs)
     returns-3)

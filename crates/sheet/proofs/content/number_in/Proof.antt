@@ -1,18 +1,25 @@
 -- `content::number_in` meets its contract: the value has as many bytes as are read. Assumes nothing.
+use Prim.Native.Nat.{ℕ}
 use native.Mathlib.Omega.{arith}
+use mathlib.Core.List.{List}
 use mathlib.Core.Logic.{⊎-elim}
 use mathlib.Core.Path.{_≡_, _∙_}
 use lib.ListN.{length}
+use lib.Seq.{take-all}
 use denote.Ref.{now}
 use mir.Syntax.{w32, w64}
 use mir.Val.{SFits}
 use Rattle.values.specs.SignedLaws.{back, ok}
 use Rattle.values.specs.RangeLaws.{widen}
+use Rattle.values.specs.Words.{leNumber, word, signed}
 use Rattle.sheet.proofs.Arms.{cast-up}
-use Rattle.sheet.proofs.Types.{whole}
 use borrow.Author.Needs.{needs}
 use Rattle.sheet.proofs.content.number_in.Statement.{statement}
 use Rattle.sheet.proofs.content.number_in.Tie as tie
+
+-- bytes that are a number as a whole
+whole : (n : ℕ) (bs : List ℕ) → length bs ≡ n → signed n (word 0 n bs) ≡ signed (length bs) (leNumber bs)
+whole n bs e = rw (take-all n bs (omega arith), e)
 
 eight : (c : tie.Else1) → length (now (c .before .before .args .value)) ≡ 8
 eight c = ⊎-elim (λ e. absurd (c .if1 .left e)) (λ e. e) (c .before .before .pre)
