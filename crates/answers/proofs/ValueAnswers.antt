@@ -1,20 +1,17 @@
 -- What each return of the transform of a value comes to, by what the functions that it calls answer. Assumes nothing.
 use Prim.Native.Nat.{ℕ, _≤_}
 use native.Mathlib.Omega.{arith}
-use mathlib.Core.Bool.{Bool, true, false, true≢false}
+use mathlib.Core.Bool.{Bool, true, false}
 use mathlib.Core.List.{List}
-use mathlib.Core.Logic.{_⊎_, inl, inr}
+use mathlib.Core.Logic.{_⊎_}
 use mathlib.Core.Path.{_≡_, refl, sym, ap, _∙_}
 use lib.IntN.{ℤ}
 use lib.ListN.{length, take}
-use borrow.Author.Tests.{eqb-true}
 use borrow.Table.Elements.{take-le}
 use Rattle.values.specs.Outcomes.{Res, ok, err, Row, missing, present}
-use Rattle.values.specs.Types.{layout, contentSize, fits, inType}
+use Rattle.values.specs.Types.{layout, contentSize, isBytes, fits, inType}
 use Rattle.values.specs.Words.{over}
 use Rattle.values.specs.declared.datatypes.PrimitiveType.{PrimitiveType}
-use Rattle.values.specs.declared.datatypes.PrimitiveType.the-variants.{Int, Long, Date, Time, String, Binary}
-use Rattle.values.specs.declared.datatypes.PrimitiveType.the-variants.{Timestamp, Timestamptz, TimestampNs, TimestamptzNs}
 use Rattle.values.specs.declared.datatypes.TypeResult.the-variants as type-result
 use Rattle.values.specs.declared.error.ErrorKind.{ErrorKind}
 use Rattle.values.specs.declared.transform.Transform.{Transform}
@@ -26,7 +23,7 @@ use Rattle.partition.specs.declared.bytes.BytesResult.the-variants as bytes-res
 use Rattle.partition.specs.declared.number.NumberResult.{NumberResult}
 use Rattle.partition.specs.declared.number.NumberResult.the-variants as number-result
 use Rattle.projection.specs.LandingLaws.{number-partition-lands}
-use Rattle.sheet.specs.RecordLaws.{fits-room}
+use Rattle.sheet.specs.RecordLaws.{fits-room, number-type}
 use Rattle.sheet.specs.Records.{recordSize, value}
 use Rattle.sheet.specs.declared.value.ValueResult.the-variants as value-result
 use Rattle.sets.specs.TransformedLaws.{value-said}
@@ -45,16 +42,7 @@ use Rattle.answers.specs.declared.answer.Answer.the-variants.{Written, E
 
 -- numbers have four or eight bytes
 pub number-length : (t : PrimitiveType) (k : ℕ) → NumberColumn t → fits (layout t) k ≡ true → (k ≡ 4) ⊎ (k ≡ 8)
-number-length Int k n h = inl (eqb-true k 4 h)
-number-length Long k n h = inr (eqb-true k 8 h)
-number-length Date k n h = inl (eqb-true k 4 h)
-number-length Time k n h = inr (eqb-true k 8 h)
-number-length Timestamp k n h = inr (eqb-true k 8 h)
-number-length Timestamptz k n h = inr (eqb-true k 8 h)
-number-length TimestampNs k n h = inr (eqb-true k 8 h)
-number-length TimestamptzNs k n h = inr (eqb-true k 8 h)
-number-length String k n h = let e = n .is in absurd (true≢false (cc))
-number-length Binary k n h = let e = n .is in absurd (true≢false (cc))
+number-length t k n h = let no : isBytes (layout t) ≡ false = ap isBytes (n .is) in number-type t k no h .size
 
 -- the partition value that the transform's answer says
 abbrev valueSaid : NumberResult → Res (Row ℤ)
