@@ -1,4 +1,3 @@
 -- Lemmas that several proofs of this crate share.
 pub mod Arms
 pub mod NumberTests
-pub mod OtherTypes

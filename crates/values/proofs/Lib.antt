@@ -1,7 +1,9 @@
 -- Lemmas that several proofs of this crate share.
+pub mod Arms
 pub mod Ascii
 pub mod BitLaws
 pub mod Held
 pub mod Refusals
 pub mod Rests
+pub mod TypeArms
 pub mod Utf8Loops

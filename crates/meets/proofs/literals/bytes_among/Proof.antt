@@ -7,24 +7,16 @@ use mathlib.Core.List.{[], _∷_, map}
 use mathlib.Core.Path.{_≡_, refl, sym, ap, _∙_}
 use lib.ListN.{take, getD}
 use lib.Seq.{slice}
-use types.Run.{OneOf, miss}
-use denote.Enum.Declared.{tagOf}
 use borrow.Author.Needs.{needs}
 use Rattle.values.specs.Ascending.{elem}
 use Rattle.values.specs.Order.{compareBytes, isEqual}
-use Rattle.values.specs.declared.order.Ordering.{Ordering}
-use Rattle.values.specs.declared.order.Ordering.the-variants.{Less, Equal, Greater}
-use Rattle.values.proofs.order.Ordering.{the-type}
+use Rattle.values.specs.declared.order.Ordering.the-variants.{Less, Greater}
+use Rattle.values.proofs.Arms.{agree}
+use Rattle.values.proofs.order.Ordering.{enum}
 use Rattle.sheet.specs.ReadAnswers.{contentAt}
 use Rattle.sheet.proofs.Turns.{for-member, found-here, not-here, nowhere}
 use Rattle.meets.proofs.literals.bytes_among.Statement.{statement}
 use Rattle.meets.proofs.literals.bytes_among.Tie as tie
-
--- what `_` is told of the order
-unequal : (o : Ordering) → OneOf (0 ∷ 2 ∷ []) (tagOf the-type o) → isEqual o ≡ false
-unequal Less m = refl
-unequal Equal m = absurd (miss (0 ∷ 2 ∷ []) 1 tt m)
-unequal Greater m = refl
 
 abbrev Inv-loop : tie.InvT-loop
 Inv-loop s numbers count v i₀ i =
@@ -84,7 +76,7 @@ loop-again c =
           (l .loop .inv .1)
           (t .loop-test .taken)
           (start .pre .room)
-          (ap isEqual (told m) ∙ unequal (m .compare-bytes .result) (c .match .keys2)),
+          (ap isEqual (told m) ∙ agree enum tt isEqual (λ o. false) (Less ∷ Greater ∷ []) (m .compare-bytes .result) (c .match .keys2) refl),
     )
 
 returns-2 : tie.Need-returns-2 Inv-loop μ-loop

@@ -1,6 +1,7 @@
 -- `numbers::steps::is_lifted` meets its contract: each arm answers for its transform, and Day's by the column. Assumes nothing.
+use mathlib.Core.Path.{refl}
 use Rattle.values.specs.declared.datatypes.PrimitiveType.the-variants.{Timestamp}
-use Rattle.expr.proofs.OtherTypes.{other-type}
+use Rattle.values.proofs.TypeArms.{other-type}
 use Rattle.numbers.proofs.Others.{not-lifted}
 use borrow.Author.Needs.{needs}
 use Rattle.numbers.proofs.steps.is_lifted.Statement.{statement}
@@ -12,7 +13,7 @@ returns-3 c = rw (c .before .before .enum-told3 .given .1, c .enum-told4 .given 
 returns-4 : tie.Need-returns-4
 returns-4 c =
     let a = c .before .before .before .args in
-    rw (c .before .enum-told3 .given .1, other-type (a .column) Timestamp tt (c .match2 .keys2))
+    rw (c .before .enum-told3 .given .1, other-type (a .column) Timestamp (c .match2 .keys2) refl)
 
 returns-5 : tie.Need-returns-5
 returns-5 c = not-lifted (c .before .args .column) (c .before .args .transform) (c .match .keys4)

@@ -7,19 +7,19 @@ use Rattle.expr.specs.declared.operator.PredicateOperator.the-variants.{LessTha
 use Rattle.projection.specs.declared.question.Question.the-variants.{Inclusive}
 use Rattle.values.specs.declared.datatypes.PrimitiveType.the-variants.{String}
 use Rattle.strings.proofs.BytesArms.{operator-arms, hands-on, beginnings, no-row}
-use Rattle.expr.proofs.OtherTypes.{other-type}
+use Rattle.values.proofs.TypeArms.{other-type}
 use borrow.Author.Needs.{needs}
 use Rattle.strings.proofs.steps.project_array.Statement.{statement}
 use Rattle.strings.proofs.steps.project_array.Tie as tie
 
 returns-7 : tie.Need-returns-7
 returns-7 c =
-    let other = other-type (c .before .before .before .before .args .column) String tt (c .match2 .keys2) in
+    let other = other-type (c .before .before .before .before .args .column) String (c .match2 .keys2) refl in
     search beginnings
 
 returns-9 : tie.Need-returns-9
 returns-9 c =
-    let other = other-type (c .before .before .before .before .args .column) String tt (c .match3 .keys2) in
+    let other = other-type (c .before .before .before .before .args .column) String (c .match3 .keys2) refl in
     search beginnings
 
 returns-10 : tie.Need-returns-10
