@@ -1,13 +1,13 @@
 -- `test::test_row` meets its contract: numbers are tested as such, and of byte strings a String also for UTF-8. Assumes nothing.
 use mathlib.Core.Bool.{true, false}
-use mathlib.Core.Path.{_≡_}
+use mathlib.Core.Path.{_≡_, refl}
 use borrow.Author.Needs.{needs}
 use Rattle.values.specs.TestLaws.{called-no, called-yes}
 use Rattle.values.specs.Types.{layout, isBytes}
 use Rattle.values.specs.TypesLaws.{bytes-layout, number-layout}
 use Rattle.values.specs.declared.datatypes.PrimitiveType.{PrimitiveType}
 use Rattle.values.specs.declared.datatypes.PrimitiveType.the-variants.{String}
-use Rattle.expr.proofs.OtherTypes.{other-type}
+use Rattle.values.proofs.TypeArms.{other-type}
 use Rattle.sheet.specs.RecordLaws.{number-type}
 use Rattle.meets.specs.HeldAnswers.{heldOf}
 use Rattle.meets.proofs.test.test_row.Statement.{statement}
@@ -44,7 +44,7 @@ unfolding heldOf
 returns-3 c =
     let is = c .before .before in
     let column = column-of (is .before) in
-    rw (bytes-layout column (bytes is), other-type column String tt (c .before .match .keys2)) (c .test-bytes .ensures)
+    rw (bytes-layout column (bytes is), other-type column String (c .before .match .keys2) refl) (c .test-bytes .ensures)
 
 pub test-row-spec : {M : Type 1} → statement M
 test-row-spec =
