@@ -15,9 +15,9 @@ use Rattle.sheet.specs.Sheets as sheets
 use Rattle.sheet.specs.declared.sheet.Sheet.{Sheet}
 use Rattle.sheet.specs.declared.sheet.SheetResult.{SheetResult}
 use Rattle.sheet.specs.declared.sheet.SheetResult.the-variants as sheet-result
-use Rattle.meets.specs.HeldAnswers.{heldOf, valueHeld, heldAs}
+use Rattle.meets.specs.HeldAnswers.{heldOf, valueHeld}
 use Rattle.meets.specs.HeldLaws.{tested-held}
-use Rattle.meets.specs.Tested.{testedSheet}
+use Rattle.meets.specs.Tested.{testedSheet, heldAs}
 use Rattle.meets.specs.declared.held.Held.{Held}
 use Rattle.meets.specs.declared.held.Held.the-variants.{Err}
 use Rattle.api.specs.HoldsTest.{holdsTest}

@@ -12,9 +12,8 @@ use Rattle.expr.specs.Predicates.{operatorIn, literalsIn}
 use Rattle.sheet.specs.Records.{value}
 use Rattle.sheet.specs.RefusalLaws.{Only, OnlyMalformed, only-bind, value-only, sheet-only}
 use Rattle.sheet.specs.Sheets.{sheet, holdsLimit}
-use Rattle.meets.specs.HeldAnswers.{heldAs, heldNumber}
 use Rattle.meets.specs.HeldLaws.{Refusal, tested-held, held-only}
-use Rattle.meets.specs.Tested.{testedSheet}
+use Rattle.meets.specs.Tested.{testedSheet, heldAs, heldNumber}
 use Rattle.api.specs.HoldsTest.{holdsTest}
 
 malformed : {A : Type 0} {r : Res A} → OnlyMalformed r → Only Refusal r

@@ -5,7 +5,7 @@ use sheet::sheet::HOLDS_LIMIT;
 use sheet::sheet::SheetResult;
 use sheet::sheet::read_sheet;
 ghost use mathlib.Core.Path.{_≡_};
-ghost use Rattle.meets.specs.HeldAnswers.{heldAs};
+ghost use Rattle.meets.specs.Tested.{heldAs};
 ghost use Rattle.api.specs.HoldsTest.{holdsTest};
 
 // Whether a value meets a sheet's leaf.

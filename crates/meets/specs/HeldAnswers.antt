@@ -1,8 +1,8 @@
 -- What the code of the holds-test answers on the way, as the definitions have it. Assumes nothing.
 use Prim.Native.Nat.{ℕ}
-use mathlib.Core.Bool.{Bool, true, false, not, _||_}
+use mathlib.Core.Bool.{Bool, false, not, _||_}
 use mathlib.Core.List.{List, [], _∷_, map}
-use Rattle.values.specs.Outcomes.{Res, ok, err, errorNumber, need, _>>=_, _>>_, Row, missing, present}
+use Rattle.values.specs.Outcomes.{Res, ok, need, _>>=_, _>>_, Row, missing, present}
 use Rattle.values.specs.Types.{Layout, number, layout, sameType}
 use Rattle.values.specs.declared.datatypes.PrimitiveType.{PrimitiveType}
 use Rattle.values.specs.declared.datatypes.PrimitiveType.the-variants.{String}
@@ -12,8 +12,6 @@ use Rattle.expr.specs.Holds.{Tests, numberTests, bytesTests, missingMeets, unar
 use Rattle.sheet.specs.Records.{value}
 use Rattle.sheet.specs.Contents.{allUtf8, rowUtf8, numberIn}
 use Rattle.sheet.specs.Values.{byLayout, mapRow}
-use Rattle.meets.specs.declared.held.Held.{Held}
-use Rattle.meets.specs.declared.held.Held.the-variants.{Yes, No, Err}
 
 -- a value against an operator's kind and literals, which for the other kinds are passed over
 abbrev pub presentHeld : {A : Type 0} → Tests A → Arity → List A → A → Bool
@@ -45,16 +43,3 @@ heldOf column a ls r = byLayout (layout column) (λ n. ok (numbersHeld (number n
 -- the same with the value as its record has it
 abbrev pub valueHeld : PrimitiveType → Arity → List (List ℕ) → List ℕ → Res Bool
 valueHeld column a ls v = value (layout column) v >>= heldOf column a ls
-
--- ---- the code's answer
-
-abbrev pub heldAs : Res Bool → Held
-heldAs (ok true) = Yes
-heldAs (ok false) = No
-heldAs (err e) = Err e
-
--- 01: "0: for the holds-test: yes, nothing written", "1: no"
-abbrev pub heldNumber : Held → ℕ
-heldNumber Yes = 0
-heldNumber No = 1
-heldNumber (Err e) = errorNumber e

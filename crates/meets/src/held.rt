@@ -1,7 +1,7 @@
 // What the holds-test answers.
 use values::error::ErrorKind;
 ghost use mathlib.Core.Path.{_≡_};
-ghost use Rattle.meets.specs.HeldAnswers.{heldNumber};
+ghost use Rattle.meets.specs.Tested.{heldNumber};
 
 // Whether a value meets a leaf, or why that is not said.
 pub enum Held {

@@ -24,7 +24,8 @@ ghost use Rattle.meets.specs.HeldAnswers.{held, numbersHeld, bytesHeld};
 ghost use Rattle.sheet.specs.Contents.{NumberType};
 ghost use Rattle.values.specs.Outcomes.{row};
 ghost use Rattle.sheet.specs.ReadAnswers.{Placed, contentsAt};
-ghost use Rattle.meets.specs.HeldAnswers.{heldOf, valueHeld, heldAs};
+ghost use Rattle.meets.specs.Tested.{heldAs};
+ghost use Rattle.meets.specs.HeldAnswers.{heldOf, valueHeld};
 
 // A test that was made, as the answer.
 fn answered(yes: bool) -> Held

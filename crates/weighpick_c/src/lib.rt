@@ -7,7 +7,7 @@ ghost use mathlib.Core.Path.{_≡_};
 ghost use Rattle.projection.specs.declared.question.Question.the-variants.{Inclusive, Strict};
 ghost use Rattle.answers.specs.Answers.{asResult, answerNumber, answerCount};
 ghost use Rattle.write.specs.Written.{sheetBuffer};
-ghost use Rattle.meets.specs.HeldAnswers.{heldAs, heldNumber};
+ghost use Rattle.meets.specs.Tested.{heldAs, heldNumber};
 ghost use Rattle.api.specs.HoldsTest.{holdsTest};
 ghost use Rattle.api.specs.Routines.{projectSheet, transformValue, valueBuffer, answered, leftIn};
 

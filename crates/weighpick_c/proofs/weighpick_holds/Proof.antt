@@ -1,7 +1,7 @@
 -- `weighpick_holds` meets its contract: the routine's answer, by its number. Assumes nothing.
 use mathlib.Core.Path.{_∙_, ap}
 use borrow.Author.Needs.{needs}
-use Rattle.meets.specs.HeldAnswers.{heldNumber}
+use Rattle.meets.specs.Tested.{heldNumber}
 use Rattle.weighpick_c.proofs.weighpick_holds.Statement.{statement}
 use Rattle.weighpick_c.proofs.weighpick_holds.Tie as tie
 

@@ -1,7 +1,7 @@
 -- `test::test_bytes` meets its contract: the answers for a present value and for a missing one. Assumes nothing.
 use mathlib.Core.Path.{ap, _∙_}
 use Rattle.values.specs.Outcomes.{ok}
-use Rattle.meets.specs.HeldAnswers.{heldAs}
+use Rattle.meets.specs.Tested.{heldAs}
 use borrow.Author.Needs.{needs}
 use Rattle.meets.proofs.test.test_bytes.Statement.{statement}
 use Rattle.meets.proofs.test.test_bytes.Tie as tie

@@ -4,7 +4,7 @@ use denote.Ref.{now}
 use Rattle.values.specs.SignedLaws as ints
 use Rattle.values.specs.Outcomes.{ok}
 use Rattle.expr.specs.Operators.{arity}
-use Rattle.meets.specs.HeldAnswers.{heldAs}
+use Rattle.meets.specs.Tested.{heldAs}
 use Rattle.meets.proofs.Rows.{number-given}
 use borrow.Author.Needs.{needs}
 use Rattle.meets.proofs.test.test_number.Statement.{statement}
