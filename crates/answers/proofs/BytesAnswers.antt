@@ -18,22 +18,22 @@ use Rattle.values.specs.declared.transform.Transform.the-variants.{Identity}
 use Rattle.values.proofs.transform.Transform as transforms
 use Rattle.partition.specs.ResultType.{resultType}
 use Rattle.expr.specs.declared.operator.PredicateOperator.{PredicateOperator}
-use Rattle.strings.specs.Answers.{bytesProjected, NoLonger, OneLiteral}
+use Rattle.strings.specs.code.Prefixes.{bytesProjected, NoLonger, OneLiteral}
 use Rattle.strings.specs.declared.steps.BytesProjection.{BytesProjection}
 use Rattle.strings.specs.declared.steps.BytesProjection.the-variants.{Prefix, Err}
-use Rattle.sheet.specs.ReadAnswers.{Parts, partsAt}
+use Rattle.sheet.specs.code.ReadAnswers.{Parts, partsAt}
 use Rattle.sheet.specs.Records.{recordSize}
 use Rattle.sheet.specs.Sheets.{holdsLimit}
 use Rattle.write.specs.Written.{answerBytes}
-use Rattle.sets.specs.FilledLaws.{parts-length}
-use Rattle.sets.specs.Sets.{collected, FilledParts}
+use Rattle.sets.specs.laws.FilledLaws.{parts-length}
+use Rattle.sets.specs.code.Sets.{collected, FilledParts}
 use Rattle.sets.specs.declared.number.Collected.{Collected}
 use Rattle.sets.specs.declared.number.Collected.the-variants as collected-as
-use Rattle.answers.specs.Answers.{Settled}
-use Rattle.answers.specs.BytesLeafLaws.{by-transform, answer-length, parts-short, one-written, setWritten}
-use Rattle.answers.specs.CollectedLaws.{found-count, found-error}
-use Rattle.answers.specs.SettledLaws.{settled-refused, settled-written}
-use Rattle.answers.specs.Leaves.{oneBytesWritten, hasSteps, BytesColumn}
+use Rattle.answers.specs.code.Settled.{Settled}
+use Rattle.answers.specs.laws.BytesLeafLaws.{by-transform, answer-length, parts-short, one-written, setWritten}
+use Rattle.answers.specs.laws.CollectedLaws.{found-count, found-error}
+use Rattle.answers.specs.laws.SettledLaws.{settled-refused, settled-written}
+use Rattle.answers.specs.code.Leaves.{oneBytesWritten, hasSteps, BytesColumn}
 use Rattle.answers.specs.declared.answer.Answer.the-variants as answer
 
 -- ---- a literal's projection

@@ -2,9 +2,9 @@
 use mathlib.Core.Bool.{Bool, true, false}
 use mathlib.Core.Path.{_≡_, sym, _∙_}
 use Rattle.values.specs.Types.{layout, isBytes}
-use Rattle.values.specs.TypesLaws.{bytes-layout, number-layout}
+use Rattle.values.specs.laws.TypesLaws.{bytes-layout, number-layout}
 use Rattle.values.specs.declared.datatypes.PrimitiveType.{PrimitiveType}
-use Rattle.answers.specs.Leaves.{NumberColumn, BytesColumn}
+use Rattle.answers.specs.code.Leaves.{NumberColumn, BytesColumn}
 
 module _ (t : PrimitiveType) {told : Bool} (is : told ≡ isBytes (layout t)) where
   pub bytes-column : told ≡ true → BytesColumn t

@@ -1,6 +1,6 @@
 -- Lemmas that several proofs share.
 pub mod Columns
-pub mod Transforms
+pub mod OtherTransforms
 pub mod NumberAnswers
 pub mod BytesAnswers
 pub mod ValueAnswers

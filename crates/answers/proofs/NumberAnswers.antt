@@ -6,27 +6,27 @@ use mathlib.Core.Path.{_≡_, refl, sym, ap, _∙_}
 use lib.IntN.{ℤ, pos, sucℤ, _+ℤ_, +ℤ-one}
 use mir.Syntax.{w64}
 use mir.Val.{SFits, toZ, ofZ}
-use Rattle.values.specs.SignedLaws.{back}
-use Rattle.values.specs.RangeLaws.{in-type-long}
+use Rattle.values.specs.laws.SignedLaws.{back}
+use Rattle.values.specs.laws.RangeLaws.{in-type-long}
 use Rattle.values.specs.Types.{layout, inType}
 use Rattle.values.specs.Words.{over}
 use Rattle.values.specs.declared.datatypes.PrimitiveType.{PrimitiveType}
 use Rattle.values.specs.declared.error.ErrorKind.{ErrorKind}
-use Rattle.expr.specs.Operators.{within, arity, operatorOf}
-use Rattle.expr.specs.PredicateLaws.{operator-of}
+use Rattle.expr.specs.Operators.{isIn, byArity, operatorOf}
+use Rattle.expr.specs.laws.PredicateLaws.{operator-of}
 use Rattle.expr.specs.Predicates.{test, binary, set}
 use Rattle.expr.specs.declared.operator.PredicateOperator.{PredicateOperator}
 use Rattle.expr.specs.declared.operator.PredicateOperator.the-variants.{In}
-use Rattle.numbers.specs.Answers.{numberProjected}
+use Rattle.numbers.specs.code.Boundaries.{numberProjected}
 use Rattle.numbers.specs.declared.steps.NumberProjection.{NumberProjection}
 use Rattle.numbers.specs.declared.steps.NumberProjection.the-variants as number-projection
 use Rattle.sheet.specs.Records.{recordSize}
 use Rattle.write.specs.Written.{answerBytes, numberBytes}
-use Rattle.answers.specs.Answers.{Settled}
-use Rattle.answers.specs.Leaves.{oneWritten, NumbersIn}
-use Rattle.answers.specs.SettledLaws.{settled-refused}
-use Rattle.answers.specs.NumberLeafLaws.{predicate-written}
-use Rattle.answers.specs.OneLiteralLaws.{takes-one}
+use Rattle.answers.specs.code.Settled.{Settled}
+use Rattle.answers.specs.code.Leaves.{oneWritten, NumbersIn}
+use Rattle.answers.specs.laws.SettledLaws.{settled-refused}
+use Rattle.answers.specs.laws.NumberLeafLaws.{predicate-written}
+use Rattle.answers.specs.laws.OneLiteralLaws.{takes-one}
 use Rattle.answers.specs.declared.answer.Answer.the-variants.{Written, Err}
 
 -- v as a local holds it
@@ -52,8 +52,8 @@ module _ (to : PrimitiveType) {p : NumberProjection} (inside : NumbersIn to p) w
     pub one-settled : {before after : List ℕ} → after ≡ over 0 (answerBytes o to (numberBytes (layout to) (seen t) ∷ [])) before
         → Settled (oneWritten to (numberProjected p)) before after (Written (recordSize * 2))
     one-settled {before} written =
-        let a = takes-one (arity o) (one-in .1) in
-        let operator : o ≡ operatorOf (arity o) = sym (operator-of o) in
+        let a = takes-one (byArity o) (one-in .1) in
+        let operator : o ≡ operatorOf (byArity o) = sym (operator-of o) in
         rw (is, a .1)
         (predicate-written to (test (binary (a .0) t)) (one-in .0, tt)
         (written ∙ rw (same, ← a .1) (ap (λ q. over 0 (answerBytes q to (numberBytes (layout to) t ∷ [])) before) operator))
@@ -79,4 +79,4 @@ module _ (to : PrimitiveType) {p : NumberProjection} (inside : NumbersIn to p) w
         → after ≡ over 0 (answerBytes In to (numberBytes (layout to) (seen t) ∷ numberBytes (layout to) (seen (seen t +ℤ pos 1)) ∷ [])) before
         → Settled (oneWritten to (numberProjected p)) before after (Written (recordSize * 3))
     two-settled written =
-        rw is (predicate-written to (test (set within (t ∷ sucℤ t ∷ []))) (two-in .0, (two-in .1, tt)) (written ∙ rw (second, first)) refl)
+        rw is (predicate-written to (test (set isIn (t ∷ sucℤ t ∷ []))) (two-in .0, (two-in .1, tt)) (written ∙ rw (second, first)) refl)

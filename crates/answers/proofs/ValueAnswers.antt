@@ -15,27 +15,27 @@ use Rattle.values.specs.declared.datatypes.PrimitiveType.{PrimitiveType}
 use Rattle.values.specs.declared.datatypes.TypeResult.the-variants as type-result
 use Rattle.values.specs.declared.error.ErrorKind.{ErrorKind}
 use Rattle.values.specs.declared.transform.Transform.{Transform}
-use Rattle.partition.specs.Answers.{numberResult, bytesResult}
+use Rattle.partition.specs.code.PartitionAnswers.{numberResult, bytesResult}
 use Rattle.partition.specs.Partition.{numberPartition, bytesPartition}
 use Rattle.partition.specs.ResultType.{resultType}
 use Rattle.partition.specs.declared.bytes.BytesResult.{BytesResult}
 use Rattle.partition.specs.declared.bytes.BytesResult.the-variants as bytes-result
 use Rattle.partition.specs.declared.number.NumberResult.{NumberResult}
 use Rattle.partition.specs.declared.number.NumberResult.the-variants as number-result
-use Rattle.projection.specs.LandingLaws.{number-partition-lands}
-use Rattle.sheet.specs.RecordLaws.{fits-room, number-type}
+use Rattle.projection.specs.laws.LandingLaws.{number-partition-lands}
+use Rattle.sheet.specs.laws.RecordLaws.{fits-room, number-type}
 use Rattle.sheet.specs.Records.{recordSize, value}
 use Rattle.sheet.specs.declared.value.ValueResult.the-variants as value-result
-use Rattle.sets.specs.TransformedLaws.{value-said}
-use Rattle.write.specs.RoundTripLaws.{length-literal}
-use Rattle.write.specs.WriteLaws.{length-number}
+use Rattle.sets.specs.laws.TransformedLaws.{value-said}
+use Rattle.write.specs.laws.RoundTripLaws.{length-literal}
+use Rattle.write.specs.laws.WriteLaws.{length-number}
 use Rattle.write.specs.Written.{valueRecord, literalRecord, numberBytes}
-use Rattle.answers.specs.Answers.{Settled}
+use Rattle.answers.specs.code.Settled.{Settled}
 use Rattle.values.specs.Outcomes.{row}
-use Rattle.answers.specs.Leaves.{NumberColumn}
-use Rattle.answers.specs.Rows.{numberValue, bytesValue}
-use Rattle.answers.specs.SettledLaws.{settled-refused, settled-written}
-use Rattle.answers.specs.ValueLaws.{number-refused, number-written, bytes-refused, bytes-written, partition-begins}
+use Rattle.answers.specs.code.Leaves.{NumberColumn}
+use Rattle.answers.specs.code.Rows.{numberValue, bytesValue}
+use Rattle.answers.specs.laws.SettledLaws.{settled-refused, settled-written}
+use Rattle.answers.specs.laws.RowAnswerLaws.{number-refused, number-written, bytes-refused, bytes-written, partition-begins}
 use Rattle.answers.specs.declared.answer.Answer.the-variants.{Written, Err}
 
 -- ---- numbers

@@ -1,7 +1,6 @@
 -- What a leaf, and a row to be transformed, are answered: read, project or transform, write; and what is left in the lent buffer. Assumes nothing.
 use Prim.Native.Nat.{ℕ}
 use mathlib.Core.List.{List}
-use mathlib.Core.Path.{_≡_}
 use lib.ListN.{length}
 use Rattle.values.specs.Outcomes.{Res, ok, err, errorNumber, _>>=_, Row}
 use Rattle.values.specs.Types.{layout}
@@ -78,8 +77,3 @@ answerCount (Written n) = n
 answerCount NoPredicate = 0
 answerCount BufferTooSmall = 0
 answerCount (Err e) = 0
-
--- the answer and the buffer after it are those of a result
-pub record Settled (r : Res (Projected (List ℕ))) (before after : List ℕ) (answer : Answer) : Type 0 where
-  pub number : answer ≡ answerOf r
-  pub left : after ≡ leftOf before r

@@ -2,5 +2,6 @@
 pub mod answer;
 pub mod leaf;
 pub mod number;
+pub mod project;
 pub mod string;
 pub mod value;

@@ -19,10 +19,10 @@ ghost use mathlib.Core.Bool.{true};
 ghost use mathlib.Core.Path.{_≡_};
 ghost use Prim.Native.Nat.{_≤_};
 ghost use lib.ListN.{length};
-ghost use Rattle.expr.specs.Operators.{arity, takesOne, takesMany};
-ghost use Rattle.numbers.specs.Answers.{numberProjected};
-ghost use Rattle.answers.specs.Answers.{Settled};
-ghost use Rattle.answers.specs.Leaves.{numberSteps, numberLeafAt, oneWritten, NumbersIn, keeps, NumberColumn, ReadyLeaf, liftsFor};
+ghost use Rattle.expr.specs.Operators.{byArity, takesOne, takesMany};
+ghost use Rattle.numbers.specs.code.Boundaries.{numberProjected};
+ghost use Rattle.answers.specs.code.Settled.{Settled};
+ghost use Rattle.answers.specs.code.Leaves.{numberSteps, numberLeafAt, oneWritten, NumbersIn, keeps, NumberColumn, ReadyLeaf, liftsFor};
 ghost use Rattle.write.specs.Written.{sheetBuffer};
 
 // The projection of the one literal, written.
@@ -46,18 +46,18 @@ fn put_projection(to: PrimitiveType, p: NumberProjection, out: &mut [u8]) -> Ans
 }
 
 // A leaf with one literal; under Identity it is the leaf itself.
-pub fn project_one(x: Leaf, s: &[u8], numbers: &[u16], out: &mut [u8]) -> Answer
+pub fn project_one(x: Leaf, s: &[u8], records: &[u16], out: &mut [u8]) -> Answer
     requires { ⌜ NumberColumn (x .column) ⌝ }
-    requires { ⌜ ReadyLeaf x (now s) (now numbers) (now out) ⌝ }
-    requires { ⌜ takesOne (arity (x .operator)) ≡ true ⌝ }
-    ensures { λ r. ⌜ Settled (numberSteps x (numberLeafAt x (now (s .entry)) (now (numbers .entry)))) (now (out .entry)) (now (out .exit)) r ⌝ }
+    requires { ⌜ ReadyLeaf x (now s) (now records) (now out) ⌝ }
+    requires { ⌜ takesOne (byArity (x .operator)) ≡ true ⌝ }
+    ensures { λ r. ⌜ Settled (numberSteps x (numberLeafAt x (now (s .entry)) (now (records .entry)))) (now (out .entry)) (now (out .exit)) r ⌝ }
 {
     let question = x.question;
     let operator = x.operator;
     let column = x.column;
     let transform = x.transform;
     let to = x.to;
-    let k = numbers[0] as usize;
+    let k = records[0] as usize;
     let l = number_of(s, k, column);
     if let Transform::Identity = transform {
         return put_projection(to, NumberProjection::One(operator, l), out);
@@ -80,12 +80,12 @@ fn lifts_set(question: Question, column: PrimitiveType, transform: Transform) ->
 }
 
 // A leaf with a set that has a projection.
-pub fn project_set(x: Leaf, s: &[u8], numbers: &[u16], out: &mut [u8]) -> Answer
+pub fn project_set(x: Leaf, s: &[u8], records: &[u16], out: &mut [u8]) -> Answer
     requires { ⌜ NumberColumn (x .column) ⌝ }
-    requires { ⌜ ReadyLeaf x (now s) (now numbers) (now out) ⌝ }
-    requires { ⌜ takesMany (arity (x .operator)) ≡ true ⌝ }
-    requires { ⌜ keeps (x .transform) (x .question) (arity (x .operator)) ≡ true ⌝ }
-    ensures { λ r. ⌜ Settled (numberSteps x (numberLeafAt x (now (s .entry)) (now (numbers .entry)))) (now (out .entry)) (now (out .exit)) r ⌝ }
+    requires { ⌜ ReadyLeaf x (now s) (now records) (now out) ⌝ }
+    requires { ⌜ takesMany (byArity (x .operator)) ≡ true ⌝ }
+    requires { ⌜ keeps (x .transform) (x .question) (byArity (x .operator)) ≡ true ⌝ }
+    ensures { λ r. ⌜ Settled (numberSteps x (numberLeafAt x (now (s .entry)) (now (records .entry)))) (now (out .entry)) (now (out .exit)) r ⌝ }
 {
     let question = x.question;
     let operator = x.operator;
@@ -94,7 +94,7 @@ pub fn project_set(x: Leaf, s: &[u8], numbers: &[u16], out: &mut [u8]) -> Answer
     let to = x.to;
     let lifts = lifts_set(question, column, transform);
     let mut set = [0; 128];
-    match project_set_expr(s, numbers, x.count, column, transform, lifts, &mut set) {
+    match project_set_expr(s, records, x.count, column, transform, lifts, &mut set) {
         Collected::Err(e) => Answer::Err(e),
         Collected::Count(n) => {
             put_numbers(out, operator, to, &set, n);

@@ -16,10 +16,10 @@ ghost use mathlib.Core.Path.{_≡_};
 ghost use Prim.Native.Nat.{_≤_};
 ghost use lib.ListN.{length};
 ghost use Rattle.values.specs.Types.{contentSize};
-ghost use Rattle.expr.specs.Operators.{arity, takesOne, takesMany};
-ghost use Rattle.strings.specs.Answers.{bytesProjected, NoLonger, OneLiteral};
-ghost use Rattle.answers.specs.Answers.{Settled};
-ghost use Rattle.answers.specs.Leaves.{byteSteps, bytesLeafAt, oneBytesWritten, keeps, BytesColumn, ReadyLeaf};
+ghost use Rattle.expr.specs.Operators.{byArity, takesOne, takesMany};
+ghost use Rattle.strings.specs.code.Prefixes.{bytesProjected, NoLonger, OneLiteral};
+ghost use Rattle.answers.specs.code.Settled.{Settled};
+ghost use Rattle.answers.specs.code.Leaves.{byteSteps, bytesLeafAt, oneBytesWritten, keeps, BytesColumn, ReadyLeaf};
 ghost use Rattle.write.specs.Written.{sheetBuffer};
 
 // The projection of the literal l, written.
@@ -41,18 +41,18 @@ fn put_projection(to: PrimitiveType, p: BytesProjection, l: &[u8], out: &mut [u8
 }
 
 // A leaf with one literal. What is not Truncate is Identity here, and gives the leaf itself.
-pub fn project_one(x: Leaf, s: &[u8], numbers: &[u16], out: &mut [u8]) -> Answer
+pub fn project_one(x: Leaf, s: &[u8], records: &[u16], out: &mut [u8]) -> Answer
     requires { ⌜ BytesColumn (x .column) ⌝ }
-    requires { ⌜ ReadyLeaf x (now s) (now numbers) (now out) ⌝ }
-    requires { ⌜ takesOne (arity (x .operator)) ≡ true ⌝ }
-    ensures { λ r. ⌜ Settled (byteSteps x (bytesLeafAt x (now (s .entry)) (now (numbers .entry)))) (now (out .entry)) (now (out .exit)) r ⌝ }
+    requires { ⌜ ReadyLeaf x (now s) (now records) (now out) ⌝ }
+    requires { ⌜ takesOne (byArity (x .operator)) ≡ true ⌝ }
+    ensures { λ r. ⌜ Settled (byteSteps x (bytesLeafAt x (now (s .entry)) (now (records .entry)))) (now (out .entry)) (now (out .exit)) r ⌝ }
 {
     let question = x.question;
     let operator = x.operator;
     let column = x.column;
     let transform = x.transform;
     let to = x.to;
-    let k = numbers[0] as usize;
+    let k = records[0] as usize;
     let l = content_of(s, k);
     match transform {
         Transform::Truncate(width) => {
@@ -64,12 +64,12 @@ pub fn project_one(x: Leaf, s: &[u8], numbers: &[u16], out: &mut [u8]) -> Answer
 }
 
 // A leaf with a set that has a projection.
-pub fn project_set(x: Leaf, s: &[u8], numbers: &[u16], out: &mut [u8]) -> Answer
+pub fn project_set(x: Leaf, s: &[u8], records: &[u16], out: &mut [u8]) -> Answer
     requires { ⌜ BytesColumn (x .column) ⌝ }
-    requires { ⌜ ReadyLeaf x (now s) (now numbers) (now out) ⌝ }
-    requires { ⌜ takesMany (arity (x .operator)) ≡ true ⌝ }
-    requires { ⌜ keeps (x .transform) (x .question) (arity (x .operator)) ≡ true ⌝ }
-    ensures { λ r. ⌜ Settled (byteSteps x (bytesLeafAt x (now (s .entry)) (now (numbers .entry)))) (now (out .entry)) (now (out .exit)) r ⌝ }
+    requires { ⌜ ReadyLeaf x (now s) (now records) (now out) ⌝ }
+    requires { ⌜ takesMany (byArity (x .operator)) ≡ true ⌝ }
+    requires { ⌜ keeps (x .transform) (x .question) (byArity (x .operator)) ≡ true ⌝ }
+    ensures { λ r. ⌜ Settled (byteSteps x (bytesLeafAt x (now (s .entry)) (now (records .entry)))) (now (out .entry)) (now (out .exit)) r ⌝ }
 {
     let operator = x.operator;
     let column = x.column;
@@ -77,7 +77,7 @@ pub fn project_set(x: Leaf, s: &[u8], numbers: &[u16], out: &mut [u8]) -> Answer
     let to = x.to;
     let mut sizes = [0; 65];
     let mut set = [0; 128];
-    match project_set_expr(s, numbers, x.count, column, transform, &mut sizes, &mut set) {
+    match project_set_expr(s, records, x.count, column, transform, &mut sizes, &mut set) {
         Collected::Err(e) => Answer::Err(e),
         Collected::Count(n) => {
             put_strings(out, operator, to, s, &sizes, &set, n);

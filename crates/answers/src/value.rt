@@ -27,14 +27,15 @@ ghost use lib.ListN.{length};
 ghost use Rattle.values.specs.Outcomes.{ok};
 ghost use Rattle.values.specs.Types.{layout, fits, sameType};
 ghost use Rattle.values.specs.declared.datatypes.PrimitiveType.the-variants.{String};
-ghost use Rattle.partition.specs.Answers.{numberRow};
+ghost use Rattle.partition.specs.code.PartitionAnswers.{numberRow};
 ghost use Rattle.partition.specs.ResultType.{resultType};
 ghost use Rattle.sheet.specs.Records.{recordSize};
-ghost use Rattle.answers.specs.Answers.{transformedRow, asResult, Settled};
+ghost use Rattle.answers.specs.Answers.{transformedRow, asResult};
+ghost use Rattle.answers.specs.code.Settled.{Settled};
 ghost use Rattle.values.specs.Outcomes.{row};
-ghost use Rattle.sheet.specs.Contents.{rowUtf8};
-ghost use Rattle.answers.specs.Leaves.{NumberColumn, BytesColumn};
-ghost use Rattle.answers.specs.Rows.{numberRowIn, numberValue, bytesValue, valueAnswer};
+ghost use Rattle.sheet.specs.code.Contents.{rowUtf8};
+ghost use Rattle.answers.specs.code.Leaves.{NumberColumn, BytesColumn};
+ghost use Rattle.answers.specs.code.Rows.{numberRowIn, numberValue, bytesValue, valueAnswer};
 
 // A number, or none.
 fn number_row(present: bool, content: &[u8]) -> NumberRow
@@ -101,7 +102,7 @@ fn transform_bytes_row(
 }
 
 // Whether a value is what the column asks for.
-fn value_ok(column: PrimitiveType, present: bool, content: &[u8]) -> bool
+fn value_encoded(column: PrimitiveType, present: bool, content: &[u8]) -> bool
     ensures { λ r. ⌜ r ≡ (not (sameType column String) || rowUtf8 (row present (now (content .entry)))) ⌝ }
 {
     if let PrimitiveType::String = column {
@@ -123,7 +124,7 @@ fn transform_row(
     requires { ⌜ recordSize ≤ length (now out) ⌝ }
     ensures { λ r. ⌜ Settled (asResult (transformedRow column transform (row present (now (content .entry))))) (now (out .entry)) (now (out .exit)) r ⌝ }
 {
-    if !value_ok(column, present, content) {
+    if !value_encoded(column, present, content) {
         return Answer::Err(ErrorKind::NotUtf8);
     }
     let to = match result_type(transform, column) {

@@ -6,7 +6,7 @@ use lib.ListN.{length}
 use borrow.Author.Tests.{lt-ltb, le-ltb}
 use Rattle.values.specs.Outcomes.{Res}
 use Rattle.projection.specs.Steps.{Projected}
-use Rattle.answers.specs.Answers.{Settled}
+use Rattle.answers.specs.code.Settled.{Settled}
 use Rattle.answers.specs.declared.answer.Answer.{Answer}
 use Rattle.answers.specs.declared.answer.Answer.the-variants.{BufferTooSmall}
 use Rattle.api.specs.Routines.{answered, leftIn}

@@ -10,9 +10,10 @@ use Rattle.values.specs.declared.datatypes.PrimitiveType.{PrimitiveType}
 use Rattle.values.specs.declared.error.ErrorKind.{ErrorKind}
 use Rattle.values.specs.declared.transform.Transform.{Transform}
 use Rattle.sheet.specs.Sheets.{head}
-use Rattle.answers.specs.Answers.{asResult, Settled}
-use Rattle.answers.specs.Rows.{valueAnswer}
-use Rattle.answers.specs.SettledLaws.{settled-refused, settled-as}
+use Rattle.answers.specs.Answers.{asResult}
+use Rattle.answers.specs.code.Settled.{Settled}
+use Rattle.answers.specs.code.Rows.{valueAnswer}
+use Rattle.answers.specs.laws.SettledLaws.{settled-refused, settled-as}
 use Rattle.answers.specs.declared.answer.Answer.{Answer}
 use Rattle.answers.specs.declared.answer.Answer.the-variants.{Err}
 use Rattle.api.specs.Routines.{transformValue}

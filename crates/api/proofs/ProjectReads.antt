@@ -5,23 +5,24 @@ use mathlib.Core.Bool.{true}
 use mathlib.Core.List.{List, []}
 use mathlib.Core.Path.{_≡_, sym, ap, _∙_}
 use lib.ListN.{length}
-use Rattle.values.specs.OutcomeLaws.{going}
+use Rattle.values.specs.laws.OutcomeLaws.{going}
 use Rattle.values.specs.Outcomes.{err, _>>=_}
 use Rattle.values.specs.declared.error.ErrorKind.{ErrorKind}
-use Rattle.expr.specs.Operators.{none, one, many, arity, takes}
-use Rattle.expr.specs.PredicateLaws.{arity-of}
+use Rattle.expr.specs.Operators.{none, one, many, byArity, takes}
+use Rattle.expr.specs.laws.PredicateLaws.{arity-of}
 use Rattle.expr.specs.Predicates.{Predicate, unary, test, binary, set, operatorIn, literalsIn}
 use Rattle.projection.specs.declared.question.Question.{Question}
-use Rattle.sheet.specs.ReadAnswers.{contentsAt}
-use Rattle.sheet.specs.ResultLaws.{SheetTold, placed-told}
-use Rattle.sheet.specs.SheetLaws.{sheet-read}
+use Rattle.sheet.specs.code.ReadAnswers.{contentsAt}
+use Rattle.sheet.specs.laws.ResultLaws.{SheetTold, placed-told}
+use Rattle.sheet.specs.laws.SheetLaws.{sheet-read}
 use Rattle.sheet.specs.Sheets.{sheet, projectLimit}
 use Rattle.sheet.specs.declared.sheet.Sheet.{Sheet}
-use Rattle.answers.specs.Answers.{projectedLeaf, Settled}
-use Rattle.answers.specs.LeafLaws.{leaf-of}
-use Rattle.answers.specs.Leaves.{leafOf, Ready}
+use Rattle.answers.specs.Answers.{projectedLeaf}
+use Rattle.answers.specs.code.Settled.{Settled}
+use Rattle.answers.specs.laws.LeafLaws.{leaf-of}
+use Rattle.answers.specs.code.Leaves.{leafOf, Ready}
 use Rattle.write.specs.Written.{sheetBuffer}
-use Rattle.answers.specs.SettledLaws.{settled-refused, settled-as}
+use Rattle.answers.specs.laws.SettledLaws.{settled-refused, settled-as}
 use Rattle.answers.specs.declared.answer.Answer.{Answer}
 use Rattle.answers.specs.declared.answer.Answer.the-variants.{Err}
 use Rattle.api.specs.Routines.{projectSheet}
@@ -33,13 +34,13 @@ unfolding projectSheet
 no-sheet question s h = settled-refused (rw h)
 
 -- ---- a sheet that was read
-takes-its : (p : Predicate (List ℕ)) → takes (arity (operatorIn p)) (length (literalsIn p)) ≡ true
+takes-its : (p : Predicate (List ℕ)) → takes (byArity (operatorIn p)) (length (literalsIn p)) ≡ true
 takes-its (unary o) = rw (arity-of (none o))
 takes-its (test (binary o l)) = rw (arity-of (one o))
 takes-its (test (set o ls)) = rw (arity-of (many o))
 
-module _ {s numbers : List ℕ} {y : Sheet} (t : SheetTold projectLimit s numbers y) where
-  pub ready : {out : List ℕ} → sheetBuffer ≤ length out → Ready (y .head .column) (y .head .operator) (y .count) s numbers out
+module _ {s records : List ℕ} {y : Sheet} (t : SheetTold projectLimit s records y) where
+  pub ready : {out : List ℕ} → sheetBuffer ≤ length out → Ready (y .head .column) (y .head .operator) (y .count) s records out
   ready room =
       let x = sheet-read projectLimit s (t .x) (t .is) in
       record {
@@ -50,20 +51,20 @@ module _ {s numbers : List ℕ} {y : Sheet} (t : SheetTold projectLimit s number
         room = room;
       }
 
-  leaf-told : leafOf [] (arity (y .head .operator)) (contentsAt s numbers (y .count)) ≡ t .x .leaf
+  leaf-told : leafOf [] (byArity (y .head .operator)) (contentsAt s records (y .count)) ≡ t .x .leaf
   leaf-told =
-      ap (λ (z : Sheet). leafOf [] (arity (z .head .operator)) (contentsAt s numbers (z .count))) (t .same)
-      ∙ ap (leafOf [] (arity (operatorIn (t .x .leaf)))) (sym (t .literals .literals))
+      ap (λ (z : Sheet). leafOf [] (byArity (z .head .operator)) (contentsAt s records (z .count))) (t .same)
+      ∙ ap (leafOf [] (byArity (operatorIn (t .x .leaf)))) (sym (t .literals .literals))
       ∙ leaf-of [] (t .x .leaf)
 
   pub sheet-answered : (question : Question) {out after : List ℕ} {answer : Answer}
-      → Settled (projectedLeaf question (y .head .column) (y .head .transform) (leafOf [] (arity (y .head .operator)) (contentsAt s numbers (y .count)))) out after answer
+      → Settled (projectedLeaf question (y .head .column) (y .head .transform) (leafOf [] (byArity (y .head .operator)) (contentsAt s records (y .count)))) out after answer
       → Settled (projectSheet question s) out after answer
   unfolding projectSheet
   sheet-answered question h = settled-as same h
     where
       same : (sheet projectLimit s >>= λ x. projectedLeaf question (x .head .column) (x .head .transform) (x .leaf))
-          ≡ projectedLeaf question (y .head .column) (y .head .transform) (leafOf [] (arity (y .head .operator)) (contentsAt s numbers (y .count)))
+          ≡ projectedLeaf question (y .head .column) (y .head .transform) (leafOf [] (byArity (y .head .operator)) (contentsAt s records (y .count)))
       same =
           going _ (t .is)
           ∙ ap (λ (z : Sheet). projectedLeaf question (z .head .column) (z .head .transform) (t .x .leaf)) (sym (t .same))

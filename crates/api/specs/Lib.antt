@@ -1,6 +1,6 @@
--- The definitions of `api`, demand 3 as a statement, and then the laws about them.
+-- The definitions of `api`, in the order in which to read them.
 pub mod HoldsTest
 pub mod Routines
 pub mod Demand3
 pub mod Requests
-pub mod HoldsLaws
+pub mod laws

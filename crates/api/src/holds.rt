@@ -1,7 +1,7 @@
 // The holds-test: whether a value meets a sheet's leaf, or a partition value an answer sheet's predicate.
 use meets::held::Held;
 use meets::test::test_value;
-use sheet::sheet::HOLDS_LIMIT;
+use sheet::records::HOLDS_LIMIT;
 use sheet::sheet::SheetResult;
 use sheet::sheet::read_sheet;
 ghost use mathlib.Core.Path.{_≡_};
@@ -12,9 +12,9 @@ ghost use Rattle.api.specs.HoldsTest.{holdsTest};
 pub fn holds(sheet: &[u8], value: &[u8]) -> Held
     ensures { λ r. ⌜ r ≡ heldAs (holdsTest (now (sheet .entry)) (now (value .entry))) ⌝ }
 {
-    let mut numbers = [0; HOLDS_LIMIT];
-    match read_sheet(sheet, HOLDS_LIMIT, &mut numbers) {
-        SheetResult::Ok(read) => test_value(read, sheet, &numbers, value),
+    let mut records = [0; HOLDS_LIMIT];
+    match read_sheet(sheet, HOLDS_LIMIT, &mut records) {
+        SheetResult::Ok(read) => test_value(read, sheet, &records, value),
         SheetResult::Err(e) => Held::Err(e),
     }
 }

@@ -1,10 +1,10 @@
 // The two projections of a sheet: the Rust's `Transform::project` and `strict_project` (src/spec/transform.rs), over bytes.
 use answers::answer::Answer;
-use answers::leaf::project_leaf;
+use answers::project::project_leaf;
 use projection::question::Question;
+use sheet::records::HOLDS_LIMIT;
+use sheet::records::PROJECT_LIMIT;
 use sheet::records::RECORD_SIZE;
-use sheet::sheet::HOLDS_LIMIT;
-use sheet::sheet::PROJECT_LIMIT;
 use sheet::sheet::SheetResult;
 use sheet::sheet::read_sheet;
 ghost use mathlib.Core.Path.{_≡_};
@@ -23,13 +23,13 @@ fn project_sheet(question: Question, sheet: &[u8], out: &mut [u8]) -> Answer
     if out.len() < SHEET_BUFFER {
         return Answer::BufferTooSmall;
     }
-    let mut numbers = [0; HOLDS_LIMIT];
+    let mut records = [0; HOLDS_LIMIT];
     // `&*sheet` lets the compiler hand on address and length in registers.
-    let read = match read_sheet(&*sheet, PROJECT_LIMIT, &mut numbers) {
+    let read = match read_sheet(&*sheet, PROJECT_LIMIT, &mut records) {
         SheetResult::Err(e) => return Answer::Err(e),
         SheetResult::Ok(read) => read,
     };
-    project_leaf(question, read.head, read.count, &*sheet, &numbers, out)
+    project_leaf(question, read.head, read.count, &*sheet, &records, out)
 }
 
 // Which partition values may have a row that meets the sheet's leaf.

@@ -1,2 +1,2 @@
--- The starred cases of document 01.
+-- The definitions of `cases`, in the order in which to read them.
 pub mod Starred

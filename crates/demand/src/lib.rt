@@ -1,1 +1,1 @@
-// Demand 3 over the bytes of the routines: the theorem, in `specs/`, with what it rests on; there is no code.
+// Demand 3 over the bytes of the routines: its proof, in `proofs/`; there is no code.

@@ -7,15 +7,15 @@ use lib.Signed.{ltZ, leZ}
 use mir.Syntax.{w64}
 use mir.Val.{SFits, toZ, ofZ}
 use borrow.Author.Tests.{eqb-true, eq-eqb}
-use Rattle.values.specs.SignedLaws.{back, eq-taken}
-use Rattle.values.specs.IntLaws.{le-true, le-false, ltZ-yes, ltZ-not}
+use Rattle.values.specs.laws.SignedLaws.{back, eq-taken}
+use Rattle.values.specs.laws.IntLaws.{le-true, le-false, ltZ-yes, ltZ-not}
 use Rattle.values.specs.Order.{compareNumbers, isLess, isEqual}
-use Rattle.values.specs.OrderLaws.{number-equal, is-equal}
-use Rattle.values.specs.TestLaws.{same-test}
+use Rattle.values.specs.laws.OrderLaws.{number-equal, is-equal}
+use Rattle.values.specs.laws.TestLaws.{same-test}
 use Rattle.values.specs.declared.order.Ordering.the-variants.{Less, Equal, Greater}
-use Rattle.expr.specs.Answers.{meetsOne}
+use Rattle.expr.specs.code.OperatorAnswers.{meetsOne}
 use Rattle.expr.specs.Holds.{numberTests}
-use Rattle.expr.specs.Operators.{arity}
+use Rattle.expr.specs.Operators.{byArity}
 use Rattle.expr.specs.declared.operator.PredicateOperator.{PredicateOperator}
 use Rattle.expr.specs.declared.operator.PredicateOperator.the-variants.{LessThan, LessThanOrEq, GreaterThan, GreaterThanOrEq, Eq, NotEq}
 
@@ -44,22 +44,22 @@ module _ {v l : ℤ} (f : SFits w64 v) (g : SFits w64 l) where
       (λ e. ap isEqual (number-equal v l .1 (eq-taken f g (eqb-true _ _ e))))
       (λ e. eq-eqb _ _ (ap (ofZ w64) (number-equal v l .0 (is-equal _ .0 e))))
 
-  pub below : {o : PredicateOperator} → o ≡ LessThan → ltZ (toZ w64 (ofZ w64 v)) (toZ w64 (ofZ w64 l)) ≡ meetsOne numberTests (arity o) v l
+  pub below : {o : PredicateOperator} → o ≡ LessThan → ltZ (toZ w64 (ofZ w64 v)) (toZ w64 (ofZ w64 l)) ≡ meetsOne numberTests (byArity o) v l
   below is = rw (is, back f, back g) (less-told v l)
 
-  pub at-most : {o : PredicateOperator} → o ≡ LessThanOrEq → leZ (toZ w64 (ofZ w64 v)) (toZ w64 (ofZ w64 l)) ≡ meetsOne numberTests (arity o) v l
+  pub at-most : {o : PredicateOperator} → o ≡ LessThanOrEq → leZ (toZ w64 (ofZ w64 v)) (toZ w64 (ofZ w64 l)) ≡ meetsOne numberTests (byArity o) v l
   at-most is = rw (is, back f, back g) (most-told v l)
 
-  pub above : {o : PredicateOperator} → o ≡ GreaterThan → ltZ (toZ w64 (ofZ w64 l)) (toZ w64 (ofZ w64 v)) ≡ meetsOne numberTests (arity o) v l
+  pub above : {o : PredicateOperator} → o ≡ GreaterThan → ltZ (toZ w64 (ofZ w64 l)) (toZ w64 (ofZ w64 v)) ≡ meetsOne numberTests (byArity o) v l
   above is = rw (is, back f, back g) (less-told l v)
 
-  pub at-least : {o : PredicateOperator} → o ≡ GreaterThanOrEq → leZ (toZ w64 (ofZ w64 l)) (toZ w64 (ofZ w64 v)) ≡ meetsOne numberTests (arity o) v l
+  pub at-least : {o : PredicateOperator} → o ≡ GreaterThanOrEq → leZ (toZ w64 (ofZ w64 l)) (toZ w64 (ofZ w64 v)) ≡ meetsOne numberTests (byArity o) v l
   at-least is = rw (is, back f, back g) (most-told l v)
 
-  pub same : {o : PredicateOperator} → o ≡ Eq → eqb (ofZ w64 v) (ofZ w64 l) ≡ meetsOne numberTests (arity o) v l
+  pub same : {o : PredicateOperator} → o ≡ Eq → eqb (ofZ w64 v) (ofZ w64 l) ≡ meetsOne numberTests (byArity o) v l
   same is = rw is same-told
 
-  pub other : {o : PredicateOperator} → o ≡ NotEq → not (eqb (ofZ w64 v) (ofZ w64 l)) ≡ meetsOne numberTests (arity o) v l
+  pub other : {o : PredicateOperator} → o ≡ NotEq → not (eqb (ofZ w64 v) (ofZ w64 l)) ≡ meetsOne numberTests (byArity o) v l
   other is = rw is (ap not same-told)
 
 pub ruleset number-tests = (below, at-most, above, at-least, same, other)

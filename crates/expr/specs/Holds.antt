@@ -10,7 +10,7 @@ use Rattle.values.specs.Order.{compareNumbers, compareBytes, startsWith, isLess
 use Rattle.values.specs.Ascending.{elem}
 use Rattle.values.specs.declared.order.Ordering.{Ordering}
 use Rattle.expr.specs.Operators as operators
-use Rattle.expr.specs.Predicates.{Test, binary, set, Predicate, unary, test, arityIn}
+use Rattle.expr.specs.Predicates.{Test, binary, set, Predicate, unary, test, byArityIn}
 
 -- how values of a kind are tested: `begins v l` says that v begins with l
 pub record Tests (A : Type 0) : Type 0 where
@@ -26,7 +26,7 @@ abbrev pub bytesTests : Tests (List ℕ)
 bytesTests = record { compare = compareBytes; begins = startsWith }
 
 -- 01: "A missing value meets IsNull only"
-abbrev pub missingMeets : operators.Arity → Bool
+abbrev pub missingMeets : operators.Operator → Bool
 missingMeets (operators.none operators.isNull) = true
 missingMeets (operators.none operators.notNull) = false
 missingMeets (operators.none operators.isNan) = false
@@ -44,19 +44,19 @@ unaryMeets operators.notNan = true
 module _ {A : Type 0} (by : Tests A) where
   -- 01: "201 to 206 compare a present value with L"
   abbrev pub binaryMeets : operators.Binary → A → A → Bool
-  binaryMeets operators.less v l = isLess (by .compare v l)
-  binaryMeets operators.atMost v l = not (isLess (by .compare l v))
-  binaryMeets operators.greater v l = isLess (by .compare l v)
-  binaryMeets operators.atLeast v l = not (isLess (by .compare v l))
-  binaryMeets operators.equal v l = isEqual (by .compare v l)
-  binaryMeets operators.notEqual v l = not (isEqual (by .compare v l))
+  binaryMeets operators.lessThan v l = isLess (by .compare v l)
+  binaryMeets operators.lessThanOrEq v l = not (isLess (by .compare l v))
+  binaryMeets operators.greaterThan v l = isLess (by .compare l v)
+  binaryMeets operators.greaterThanOrEq v l = not (isLess (by .compare v l))
+  binaryMeets operators.eq v l = isEqual (by .compare v l)
+  binaryMeets operators.notEq v l = not (isEqual (by .compare v l))
   binaryMeets operators.startsWith v l = by .begins v l
   binaryMeets operators.notStartsWith v l = not (by .begins v l)
 
   -- 01: "In holds of a present value that equals some literal, NotIn of one that equals none"
   abbrev pub setMeets : operators.SetOperator → A → List A → Bool
-  setMeets operators.within v ls = elem (by .compare) v ls
-  setMeets operators.outside v ls = not (elem (by .compare) v ls)
+  setMeets operators.isIn v ls = elem (by .compare) v ls
+  setMeets operators.notIn v ls = not (elem (by .compare) v ls)
 
   abbrev pub meets : Test A → A → Bool
   meets (binary o l) v = binaryMeets o v l
@@ -67,14 +67,14 @@ module _ {A : Type 0} (by : Tests A) where
   presentMeets (test t) v = meets t v
 
   abbrev pub holds : Predicate A → Row A → Bool
-  holds p missing = missingMeets (arityIn p)
+  holds p missing = missingMeets (byArityIn p)
   holds p (present v) = presentMeets p v
 
 -- a missing number does not meet NotEq 5
-missing-not-equal : holds numberTests (test (binary operators.notEqual (pos 5))) missing ≡ false
+missing-not-equal : holds numberTests (test (binary operators.notEq (pos 5))) missing ≡ false
 missing-not-equal = refl
 
 -- -1 < 0 holds
-signed-order : holds numberTests (test (binary operators.less (pos 0))) (present (negsuc 0)) ≡ true
+signed-order : holds numberTests (test (binary operators.lessThan (pos 0))) (present (negsuc 0)) ≡ true
 unfolding compareNumbers
 signed-order = refl

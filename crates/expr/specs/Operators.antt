@@ -54,67 +54,67 @@ pub data Unary : Type 0 where
   isNull notNull isNan notNan : Unary
 
 pub data Binary : Type 0 where
-  less atMost greater atLeast equal notEqual startsWith notStartsWith : Binary
+  lessThan lessThanOrEq greaterThan greaterThanOrEq eq notEq startsWith notStartsWith : Binary
 
 pub data SetOperator : Type 0 where
-  within outside : SetOperator
+  isIn notIn : SetOperator
 
 -- an operator, told by how many literals it takes. 01: "101–104 take no literal, 201–208 one, 301–302 from 0 to 64"; the 64 is `Sheets.projectLimit`
-pub data Arity : Type 0 where
-  none : Unary → Arity
-  one : Binary → Arity
-  many : SetOperator → Arity
+pub data Operator : Type 0 where
+  none : Unary → Operator
+  one : Binary → Operator
+  many : SetOperator → Operator
 
-abbrev pub arity : PredicateOperator → Arity
-arity IsNull = none isNull
-arity NotNull = none notNull
-arity IsNan = none isNan
-arity NotNan = none notNan
-arity LessThan = one less
-arity LessThanOrEq = one atMost
-arity GreaterThan = one greater
-arity GreaterThanOrEq = one atLeast
-arity Eq = one equal
-arity NotEq = one notEqual
-arity StartsWith = one startsWith
-arity NotStartsWith = one notStartsWith
-arity In = many within
-arity NotIn = many outside
+abbrev pub byArity : PredicateOperator → Operator
+byArity IsNull = none isNull
+byArity NotNull = none notNull
+byArity IsNan = none isNan
+byArity NotNan = none notNan
+byArity LessThan = one lessThan
+byArity LessThanOrEq = one lessThanOrEq
+byArity GreaterThan = one greaterThan
+byArity GreaterThanOrEq = one greaterThanOrEq
+byArity Eq = one eq
+byArity NotEq = one notEq
+byArity StartsWith = one startsWith
+byArity NotStartsWith = one notStartsWith
+byArity In = many isIn
+byArity NotIn = many notIn
 
 -- an operator of the arity takes so many literals
-abbrev pub takes : Arity → ℕ → Bool
+abbrev pub takes : Operator → ℕ → Bool
 takes (none o) n = eqb n 0
 takes (one o) n = eqb n 1
 takes (many o) n = true
 
 -- the Rust's `is_unary`, `is_binary` and `is_set`
-abbrev pub takesNone : Arity → Bool
+abbrev pub takesNone : Operator → Bool
 takesNone (none o) = true
 takesNone (one o) = false
 takesNone (many o) = false
 
-abbrev pub takesOne : Arity → Bool
+abbrev pub takesOne : Operator → Bool
 takesOne (none o) = false
 takesOne (one o) = true
 takesOne (many o) = false
 
-abbrev pub takesMany : Arity → Bool
+abbrev pub takesMany : Operator → Bool
 takesMany (none o) = false
 takesMany (one o) = false
 takesMany (many o) = true
 
-abbrev pub operatorOf : Arity → PredicateOperator
+abbrev pub operatorOf : Operator → PredicateOperator
 operatorOf (none isNull) = IsNull
 operatorOf (none notNull) = NotNull
 operatorOf (none isNan) = IsNan
 operatorOf (none notNan) = NotNan
-operatorOf (one less) = LessThan
-operatorOf (one atMost) = LessThanOrEq
-operatorOf (one greater) = GreaterThan
-operatorOf (one atLeast) = GreaterThanOrEq
-operatorOf (one equal) = Eq
-operatorOf (one notEqual) = NotEq
+operatorOf (one lessThan) = LessThan
+operatorOf (one lessThanOrEq) = LessThanOrEq
+operatorOf (one greaterThan) = GreaterThan
+operatorOf (one greaterThanOrEq) = GreaterThanOrEq
+operatorOf (one eq) = Eq
+operatorOf (one notEq) = NotEq
 operatorOf (one startsWith) = StartsWith
 operatorOf (one notStartsWith) = NotStartsWith
-operatorOf (many within) = In
-operatorOf (many outside) = NotIn
+operatorOf (many isIn) = In
+operatorOf (many notIn) = NotIn

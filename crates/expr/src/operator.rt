@@ -2,8 +2,8 @@
 use values::error::ErrorKind;
 ghost use mathlib.Core.Path.{_≡_};
 ghost use Rattle.values.specs.Numbered.{find};
-ghost use Rattle.expr.specs.Operators.{operators, operatorNumber, negated, arity, takesNone, takesMany};
-ghost use Rattle.expr.specs.Answers.{operatorResult};
+ghost use Rattle.expr.specs.Operators.{operators, operatorNumber, negated, byArity, takesNone, takesMany};
+ghost use Rattle.expr.specs.code.OperatorAnswers.{operatorResult};
 
 pub enum PredicateOperator {
     // Unary operators.
@@ -57,7 +57,7 @@ impl PredicateOperator {
 
     // Whether the operator takes no literal.
     pub fn is_unary(self) -> bool
-        ensures { λ r. ⌜ r ≡ takesNone (arity self) ⌝ }
+        ensures { λ r. ⌜ r ≡ takesNone (byArity self) ⌝ }
     {
         match self {
             PredicateOperator::IsNull => true,
@@ -70,7 +70,7 @@ impl PredicateOperator {
 
     // Whether the operator takes a set of literals.
     pub fn is_set(self) -> bool
-        ensures { λ r. ⌜ r ≡ takesMany (arity self) ⌝ }
+        ensures { λ r. ⌜ r ≡ takesMany (byArity self) ⌝ }
     {
         match self {
             PredicateOperator::In => true,

@@ -4,13 +4,13 @@ use values::order::Ordering;
 use values::order::compare_bytes;
 use values::order::starts_with;
 ghost use mathlib.Core.Path.{_≡_};
-ghost use Rattle.expr.specs.Operators.{arity};
+ghost use Rattle.expr.specs.Operators.{byArity};
 ghost use Rattle.expr.specs.Holds.{numberTests, bytesTests};
-ghost use Rattle.expr.specs.Answers.{meetsOne, asksFor};
+ghost use Rattle.expr.specs.code.OperatorAnswers.{meetsOne, asksFor};
 
 // Whether a number meets an operator that takes one literal; no other operator is met.
 pub fn number_meets(operator: PredicateOperator, v: i64, l: i64) -> bool
-    ensures { λ r. ⌜ r ≡ meetsOne numberTests (arity operator) v l ⌝ }
+    ensures { λ r. ⌜ r ≡ meetsOne numberTests (byArity operator) v l ⌝ }
 {
     match operator {
         PredicateOperator::IsNull => false,
@@ -32,7 +32,7 @@ pub fn number_meets(operator: PredicateOperator, v: i64, l: i64) -> bool
 
 // Whether an order of a value to a literal is one that a comparison asks for; no other operator asks for one.
 fn ordering_meets(operator: PredicateOperator, o: Ordering) -> bool
-    ensures { λ r. ⌜ r ≡ asksFor (arity operator) o ⌝ }
+    ensures { λ r. ⌜ r ≡ asksFor (byArity operator) o ⌝ }
 {
     match o {
         Ordering::Less => match operator {
@@ -58,7 +58,7 @@ fn ordering_meets(operator: PredicateOperator, o: Ordering) -> bool
 
 // Whether a byte string meets an operator that takes one literal; no other operator is met.
 pub fn bytes_meets(operator: PredicateOperator, v: &[u8], l: &[u8]) -> bool
-    ensures { λ r. ⌜ r ≡ meetsOne bytesTests (arity operator) (now (v .entry)) (now (l .entry)) ⌝ }
+    ensures { λ r. ⌜ r ≡ meetsOne bytesTests (byArity operator) (now (v .entry)) (now (l .entry)) ⌝ }
 {
     match operator {
         PredicateOperator::StartsWith => starts_with(v, l),

@@ -1,3 +1,3 @@
 -- Lemmas that several proofs share.
-pub mod Arms
-pub mod Rows
+pub mod HeldArms
+pub mod RowTests

@@ -1,4 +1,4 @@
--- The definitions of `meets`, and then the laws about them.
+-- The definitions of `meets`, in the order in which to read them.
 pub mod Tested
-pub mod HeldAnswers
-pub mod HeldLaws
+pub mod code
+pub mod laws

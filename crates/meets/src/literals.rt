@@ -13,19 +13,19 @@ ghost use mathlib.Core.Bool.{true};
 ghost use Rattle.values.specs.Ascending.{elem};
 ghost use Rattle.values.specs.Order.{compareNumbers, compareBytes};
 ghost use Rattle.values.specs.Types.{layout};
-ghost use Rattle.expr.specs.Operators.{arity};
+ghost use Rattle.expr.specs.Operators.{byArity};
 ghost use Rattle.expr.specs.Holds.{numberTests, bytesTests, missingMeets};
-ghost use Rattle.meets.specs.HeldAnswers.{presentHeld};
-ghost use Rattle.sheet.specs.ReadAnswers.{Placed, contentsAt, numbersAt};
+ghost use Rattle.meets.specs.code.HeldAnswers.{presentHeld};
+ghost use Rattle.sheet.specs.code.ReadAnswers.{Placed, contentsAt, numbersAt};
 
-// Whether a number equals one of the literals in the records that the first count numbers name.
-fn number_among(s: &[u8], numbers: &[u16], count: usize, column: PrimitiveType, v: i64) -> bool
-    requires { ⌜ Placed (layout column) (now s) (now numbers) count ⌝ }
-    ensures { λ r. ⌜ r ≡ elem compareNumbers v (numbersAt (layout column) (now (s .entry)) (now (numbers .entry)) count) ⌝ }
+// Whether a number equals one of the literals in the first count records.
+fn number_among(s: &[u8], records: &[u16], count: usize, column: PrimitiveType, v: i64) -> bool
+    requires { ⌜ Placed (layout column) (now s) (now records) count ⌝ }
+    ensures { λ r. ⌜ r ≡ elem compareNumbers v (numbersAt (layout column) (now (s .entry)) (now (records .entry)) count) ⌝ }
 {
     let mut i = 0;
     while i < count {
-        let k = numbers[i] as usize;
+        let k = records[i] as usize;
         if number_of(s, k, column) == v {
             return true;
         }
@@ -35,13 +35,13 @@ fn number_among(s: &[u8], numbers: &[u16], count: usize, column: PrimitiveType, 
 }
 
 // The same for a byte string.
-fn bytes_among(s: &[u8], numbers: &[u16], count: usize, column: PrimitiveType, v: &[u8]) -> bool
-    requires { ⌜ Placed (layout column) (now s) (now numbers) count ⌝ }
-    ensures { λ r. ⌜ r ≡ elem compareBytes (now (v .entry)) (contentsAt (now (s .entry)) (now (numbers .entry)) count) ⌝ }
+fn bytes_among(s: &[u8], records: &[u16], count: usize, column: PrimitiveType, v: &[u8]) -> bool
+    requires { ⌜ Placed (layout column) (now s) (now records) count ⌝ }
+    ensures { λ r. ⌜ r ≡ elem compareBytes (now (v .entry)) (contentsAt (now (s .entry)) (now (records .entry)) count) ⌝ }
 {
     let mut i = 0;
     while i < count {
-        let k = numbers[i] as usize;
+        let k = records[i] as usize;
         if let Ordering::Equal = compare_bytes(v, content_of(s, k)) {
             return true;
         }
@@ -52,7 +52,7 @@ fn bytes_among(s: &[u8], numbers: &[u16], count: usize, column: PrimitiveType, v
 
 // Whether a missing value meets an operator, whatever its literals.
 pub fn missing_holds(operator: PredicateOperator) -> bool
-    ensures { λ r. ⌜ r ≡ missingMeets (arity operator) ⌝ }
+    ensures { λ r. ⌜ r ≡ missingMeets (byArity operator) ⌝ }
 {
     if let PredicateOperator::IsNull = operator {
         true
@@ -62,9 +62,9 @@ pub fn missing_holds(operator: PredicateOperator) -> bool
 }
 
 // Whether a present number meets an operator with those literals.
-pub fn number_holds(x: Sheet, s: &[u8], numbers: &[u16], v: i64) -> bool
-    requires { ⌜ Placed (layout (x .head .column)) (now s) (now numbers) (x .count) ⌝ }
-    ensures { λ r. ⌜ r ≡ presentHeld numberTests (arity (x .head .operator)) (numbersAt (layout (x .head .column)) (now (s .entry)) (now (numbers .entry)) (x .count)) v ⌝ }
+pub fn number_holds(x: Sheet, s: &[u8], records: &[u16], v: i64) -> bool
+    requires { ⌜ Placed (layout (x .head .column)) (now s) (now records) (x .count) ⌝ }
+    ensures { λ r. ⌜ r ≡ presentHeld numberTests (byArity (x .head .operator)) (numbersAt (layout (x .head .column)) (now (s .entry)) (now (records .entry)) (x .count)) v ⌝ }
 {
     let head = x.head;
     let operator = head.operator;
@@ -75,22 +75,22 @@ pub fn number_holds(x: Sheet, s: &[u8], numbers: &[u16], v: i64) -> bool
         PredicateOperator::NotNull => true,
         PredicateOperator::IsNan => false,
         PredicateOperator::NotNan => true,
-        PredicateOperator::In => number_among(s, numbers, count, column, v),
-        PredicateOperator::NotIn => !number_among(s, numbers, count, column, v),
+        PredicateOperator::In => number_among(s, records, count, column, v),
+        PredicateOperator::NotIn => !number_among(s, records, count, column, v),
         _ => {
             if count == 0 {
                 return false;
             }
-            let k = numbers[0] as usize;
+            let k = records[0] as usize;
             number_meets(operator, v, number_of(s, k, column))
         }
     }
 }
 
 // Whether a present byte string meets an operator with those literals.
-pub fn bytes_holds(x: Sheet, s: &[u8], numbers: &[u16], v: &[u8]) -> bool
-    requires { ⌜ Placed (layout (x .head .column)) (now s) (now numbers) (x .count) ⌝ }
-    ensures { λ r. ⌜ r ≡ presentHeld bytesTests (arity (x .head .operator)) (contentsAt (now (s .entry)) (now (numbers .entry)) (x .count)) (now (v .entry)) ⌝ }
+pub fn bytes_holds(x: Sheet, s: &[u8], records: &[u16], v: &[u8]) -> bool
+    requires { ⌜ Placed (layout (x .head .column)) (now s) (now records) (x .count) ⌝ }
+    ensures { λ r. ⌜ r ≡ presentHeld bytesTests (byArity (x .head .operator)) (contentsAt (now (s .entry)) (now (records .entry)) (x .count)) (now (v .entry)) ⌝ }
 {
     let head = x.head;
     let operator = head.operator;
@@ -101,13 +101,13 @@ pub fn bytes_holds(x: Sheet, s: &[u8], numbers: &[u16], v: &[u8]) -> bool
         PredicateOperator::NotNull => true,
         PredicateOperator::IsNan => false,
         PredicateOperator::NotNan => true,
-        PredicateOperator::In => bytes_among(s, numbers, count, column, v),
-        PredicateOperator::NotIn => !bytes_among(s, numbers, count, column, v),
+        PredicateOperator::In => bytes_among(s, records, count, column, v),
+        PredicateOperator::NotIn => !bytes_among(s, records, count, column, v),
         _ => {
             if count == 0 {
                 return false;
             }
-            let k = numbers[0] as usize;
+            let k = records[0] as usize;
             bytes_meets(operator, v, content_of(s, k))
         }
     }

@@ -18,14 +18,14 @@ ghost use lib.ListN.{length};
 ghost use Rattle.values.specs.Outcomes.{ok};
 ghost use Rattle.values.specs.Types.{layout, fits};
 ghost use Rattle.values.specs.declared.datatypes.PrimitiveType.the-variants.{String};
-ghost use Rattle.expr.specs.Operators.{arity};
+ghost use Rattle.expr.specs.Operators.{byArity};
 ghost use Rattle.expr.specs.Holds.{bytesTests};
-ghost use Rattle.meets.specs.HeldAnswers.{held, numbersHeld, bytesHeld};
-ghost use Rattle.sheet.specs.Contents.{NumberType};
+ghost use Rattle.meets.specs.code.HeldAnswers.{held, numbersHeld, bytesHeld};
+ghost use Rattle.sheet.specs.code.Contents.{NumberType};
 ghost use Rattle.values.specs.Outcomes.{row};
-ghost use Rattle.sheet.specs.ReadAnswers.{Placed, contentsAt};
+ghost use Rattle.sheet.specs.code.ReadAnswers.{Placed, contentsAt};
 ghost use Rattle.meets.specs.Tested.{heldAs};
-ghost use Rattle.meets.specs.HeldAnswers.{heldOf, valueHeld};
+ghost use Rattle.meets.specs.code.HeldAnswers.{heldOf, valueHeld};
 
 // A test that was made, as the answer.
 fn answered(yes: bool) -> Held
@@ -35,72 +35,72 @@ fn answered(yes: bool) -> Held
 }
 
 // Whether a number, which may be missing, meets an operator with those literals.
-fn test_number(x: Sheet, s: &[u8], numbers: &[u16], present: bool, value: &[u8]) -> Held
-    requires { ⌜ Placed (layout (x .head .column)) (now s) (now numbers) (x .count) ⌝ }
+fn test_number(x: Sheet, s: &[u8], records: &[u16], present: bool, value: &[u8]) -> Held
+    requires { ⌜ Placed (layout (x .head .column)) (now s) (now records) (x .count) ⌝ }
     requires { ⌜ (present ≡ true → NumberType (x .head .column) (length (now value))) ⌝ }
-    ensures { λ r. ⌜ r ≡ heldAs (ok (numbersHeld (layout (x .head .column)) (arity (x .head .operator)) (contentsAt (now (s .entry)) (now (numbers .entry)) (x .count)) (row present (now (value .entry))))) ⌝ }
+    ensures { λ r. ⌜ r ≡ heldAs (ok (numbersHeld (layout (x .head .column)) (byArity (x .head .operator)) (contentsAt (now (s .entry)) (now (records .entry)) (x .count)) (row present (now (value .entry))))) ⌝ }
 {
     let head = x.head;
     let operator = head.operator;
     if present {
-        answered(number_holds(x, s, numbers, number_in(value)))
+        answered(number_holds(x, s, records, number_in(value)))
     } else {
         answered(missing_holds(operator))
     }
 }
 
 // The same for a byte string.
-fn test_bytes(x: Sheet, s: &[u8], numbers: &[u16], present: bool, value: &[u8]) -> Held
-    requires { ⌜ Placed (layout (x .head .column)) (now s) (now numbers) (x .count) ⌝ }
-    ensures { λ r. ⌜ r ≡ heldAs (ok (held bytesTests (arity (x .head .operator)) (contentsAt (now (s .entry)) (now (numbers .entry)) (x .count)) (row present (now (value .entry))))) ⌝ }
+fn test_bytes(x: Sheet, s: &[u8], records: &[u16], present: bool, value: &[u8]) -> Held
+    requires { ⌜ Placed (layout (x .head .column)) (now s) (now records) (x .count) ⌝ }
+    ensures { λ r. ⌜ r ≡ heldAs (ok (held bytesTests (byArity (x .head .operator)) (contentsAt (now (s .entry)) (now (records .entry)) (x .count)) (row present (now (value .entry))))) ⌝ }
 {
     let head = x.head;
     let operator = head.operator;
     if present {
         // `&*s` lets the compiler hand on address and length in registers.
-        answered(bytes_holds(x, &*s, &*numbers, &*value))
+        answered(bytes_holds(x, &*s, &*records, &*value))
     } else {
         answered(missing_holds(operator))
     }
 }
 
 // The same for a String, whose literals are to be UTF-8, and then its value.
-fn test_string(x: Sheet, s: &[u8], numbers: &[u16], present: bool, value: &[u8]) -> Held
-    requires { ⌜ Placed (layout (x .head .column)) (now s) (now numbers) (x .count) ⌝ }
-    ensures { λ r. ⌜ r ≡ heldAs (bytesHeld String (arity (x .head .operator)) (contentsAt (now (s .entry)) (now (numbers .entry)) (x .count)) (row present (now (value .entry)))) ⌝ }
+fn test_string(x: Sheet, s: &[u8], records: &[u16], present: bool, value: &[u8]) -> Held
+    requires { ⌜ Placed (layout (x .head .column)) (now s) (now records) (x .count) ⌝ }
+    ensures { λ r. ⌜ r ≡ heldAs (bytesHeld String (byArity (x .head .operator)) (contentsAt (now (s .entry)) (now (records .entry)) (x .count)) (row present (now (value .entry)))) ⌝ }
 {
     let head = x.head;
     let column = head.column;
-    if !literals_utf8(s, numbers, x.count, column) {
+    if !literals_utf8(s, records, x.count, column) {
         return Held::Err(ErrorKind::NotUtf8);
     }
     if !value_utf8(present, value) {
         return Held::Err(ErrorKind::NotUtf8);
     }
-    test_bytes(x, s, numbers, present, value)
+    test_bytes(x, s, records, present, value)
 }
 
 // Whether a value of the column's type, which may be missing, meets an operator with those literals.
-fn test_row(x: Sheet, s: &[u8], numbers: &[u16], present: bool, value: &[u8]) -> Held
-    requires { ⌜ Placed (layout (x .head .column)) (now s) (now numbers) (x .count) ⌝ }
+fn test_row(x: Sheet, s: &[u8], records: &[u16], present: bool, value: &[u8]) -> Held
+    requires { ⌜ Placed (layout (x .head .column)) (now s) (now records) (x .count) ⌝ }
     requires { ⌜ (present ≡ true → fits (layout (x .head .column)) (length (now value)) ≡ true) ⌝ }
-    ensures { λ r. ⌜ r ≡ heldAs (heldOf (x .head .column) (arity (x .head .operator)) (contentsAt (now (s .entry)) (now (numbers .entry)) (x .count)) (row present (now (value .entry)))) ⌝ }
+    ensures { λ r. ⌜ r ≡ heldAs (heldOf (x .head .column) (byArity (x .head .operator)) (contentsAt (now (s .entry)) (now (records .entry)) (x .count)) (row present (now (value .entry)))) ⌝ }
 {
     let head = x.head;
     let column = head.column;
     if !column.is_bytes() {
-        return test_number(x, &*s, &*numbers, present, &*value);
+        return test_number(x, &*s, &*records, present, &*value);
     }
     if let PrimitiveType::String = column {
-        return test_string(x, &*s, &*numbers, present, &*value);
+        return test_string(x, &*s, &*records, present, &*value);
     }
-    test_bytes(x, &*s, &*numbers, present, &*value)
+    test_bytes(x, &*s, &*records, present, &*value)
 }
 
 // The same for the value in a record.
-pub fn test_value(x: Sheet, s: &[u8], numbers: &[u16], value: &[u8]) -> Held
-    requires { ⌜ Placed (layout (x .head .column)) (now s) (now numbers) (x .count) ⌝ }
-    ensures { λ r. ⌜ r ≡ heldAs (valueHeld (x .head .column) (arity (x .head .operator)) (contentsAt (now (s .entry)) (now (numbers .entry)) (x .count)) (now (value .entry))) ⌝ }
+pub fn test_value(x: Sheet, s: &[u8], records: &[u16], value: &[u8]) -> Held
+    requires { ⌜ Placed (layout (x .head .column)) (now s) (now records) (x .count) ⌝ }
+    ensures { λ r. ⌜ r ≡ heldAs (valueHeld (x .head .column) (byArity (x .head .operator)) (contentsAt (now (s .entry)) (now (records .entry)) (x .count)) (now (value .entry))) ⌝ }
 {
     let head = x.head;
     let column = head.column;
@@ -109,5 +109,5 @@ pub fn test_value(x: Sheet, s: &[u8], numbers: &[u16], value: &[u8]) -> Held
         ValueResult::Missing => false,
         ValueResult::Present => true,
     };
-    test_row(x, s, numbers, present, content_in(value, present))
+    test_row(x, s, records, present, content_in(value, present))
 }

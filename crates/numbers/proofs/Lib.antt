@@ -1,3 +1,3 @@
 -- Lemmas that several proofs of this crate share.
 pub mod Others
-pub mod NumberArms
+pub mod StepArms

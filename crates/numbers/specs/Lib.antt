@@ -1,3 +1,3 @@
--- The definitions of `numbers`, in the order in which to read them, and then the laws about them.
-pub mod Answers
-pub mod BoundaryLaws
+-- `numbers` has no definitions of its own.
+pub mod code
+pub mod laws

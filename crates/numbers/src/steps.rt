@@ -10,12 +10,12 @@ ghost use mathlib.Core.Bool.{true};
 ghost use mathlib.Core.Path.{_≡_};
 ghost use lib.IntN.{sucℤ, predℤ};
 ghost use Rattle.values.specs.Outcomes.{ok};
-ghost use Rattle.expr.specs.Operators.{arity, takesOne};
+ghost use Rattle.expr.specs.Operators.{byArity, takesOne};
 ghost use Rattle.projection.specs.Lifting.{lifted, lift};
 ghost use Rattle.projection.specs.Projection.{numberUnder};
 ghost use Rattle.projection.specs.Steps.{mapped};
-ghost use Rattle.projection.specs.Answers.{oneTest};
-ghost use Rattle.numbers.specs.Answers.{numberLeaf, neighbour, inclusiveBoundary, strictBoundary, atBoundary, numberProjected, OneAt, OneIn};
+ghost use Rattle.projection.specs.code.OneLiteral.{oneTest};
+ghost use Rattle.numbers.specs.code.Boundaries.{numberLeaf, neighbour, inclusiveBoundary, strictBoundary, atBoundary, numberProjected, OneAt, OneIn};
 ghost use Rattle.projection.specs.declared.question.Question.the-variants.{Inclusive, Strict};
 
 // The operator that a row of the table has, and the literal that is to be transformed: none where the row has no predicate.
@@ -55,7 +55,7 @@ fn try_decrement_number(operator: PredicateOperator, v: i64) -> Boundary
 
 // Inclusive, the Rust's `adjust_operator` with it: < L is ≤ L−1, and > L is ≥ L+1.
 fn adjust_boundary(operator: PredicateOperator, l: i64) -> Boundary
-    ensures { λ r. ⌜ r ≡ inclusiveBoundary (arity operator) l ⌝ }
+    ensures { λ r. ⌜ r ≡ inclusiveBoundary (byArity operator) l ⌝ }
 {
     match operator {
         PredicateOperator::LessThan => try_decrement_number(PredicateOperator::LessThanOrEq, l),
@@ -73,7 +73,7 @@ fn adjust_boundary(operator: PredicateOperator, l: i64) -> Boundary
 
 // Strict: ≤ L is < L+1, and ≥ L is > L−1.
 fn strict_boundary(operator: PredicateOperator, l: i64) -> Boundary
-    ensures { λ r. ⌜ r ≡ strictBoundary (arity operator) l ⌝ }
+    ensures { λ r. ⌜ r ≡ strictBoundary (byArity operator) l ⌝ }
 {
     match operator {
         PredicateOperator::LessThanOrEq => try_increment_number(PredicateOperator::LessThan, l),
@@ -128,8 +128,8 @@ pub fn is_lifted(column: PrimitiveType, transform: Transform) -> bool
 
 // Lifting: with a negative number, ≤ uses the one above, and Eq becomes In of both.
 fn adjust_time_projection(operator: PredicateOperator, t: i64) -> NumberProjection
-    requires { ⌜ takesOne (arity operator) ≡ true ⌝ }
-    ensures projected { λ r. ⌜ numberProjected r ≡ ok (mapped lift (oneTest (arity operator) t)) ⌝ }
+    requires { ⌜ takesOne (byArity operator) ≡ true ⌝ }
+    ensures projected { λ r. ⌜ numberProjected r ≡ ok (mapped lift (oneTest (byArity operator) t)) ⌝ }
     ensures one { λ r. ⌜ OneIn r ⌝ }
 {
     if t < 0 {
@@ -150,7 +150,7 @@ fn project_binary_with_adjusted_boundary(
     operator: PredicateOperator,
     l: i64,
 ) -> NumberProjection
-    ensures projected { λ r. ⌜ numberProjected r ≡ numberLeaf Inclusive column transform (arity operator) l ⌝ }
+    ensures projected { λ r. ⌜ numberProjected r ≡ numberLeaf Inclusive column transform (byArity operator) l ⌝ }
     ensures one { λ r. ⌜ OneIn r ⌝ }
 {
     match project_boundary(column, transform, adjust_boundary(operator, l)) {
@@ -174,7 +174,7 @@ fn truncate_number_strict(
     operator: PredicateOperator,
     l: i64,
 ) -> NumberProjection
-    ensures projected { λ r. ⌜ numberProjected r ≡ numberLeaf Strict column transform (arity operator) l ⌝ }
+    ensures projected { λ r. ⌜ numberProjected r ≡ numberLeaf Strict column transform (byArity operator) l ⌝ }
     ensures one { λ r. ⌜ OneIn r ⌝ }
 {
     project_boundary(column, transform, strict_boundary(operator, l))
@@ -188,7 +188,7 @@ pub fn project_number(
     operator: PredicateOperator,
     l: i64,
 ) -> NumberProjection
-    ensures projected { λ r. ⌜ numberProjected r ≡ numberLeaf question column transform (arity operator) l ⌝ }
+    ensures projected { λ r. ⌜ numberProjected r ≡ numberLeaf question column transform (byArity operator) l ⌝ }
     ensures one { λ r. ⌜ OneIn r ⌝ }
 {
     match question {

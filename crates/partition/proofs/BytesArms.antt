@@ -10,7 +10,7 @@ use Rattle.values.specs.declared.datatypes.PrimitiveType.{PrimitiveType}
 use Rattle.values.specs.declared.datatypes.PrimitiveType.the-variants.{String}
 use Rattle.values.specs.declared.transform.Transform.{Transform}
 use Rattle.partition.specs.Partition.{truncateBytes, transformBytes, checked, partition, bytesPartition}
-use Rattle.partition.specs.Answers.{checkedResult, bytesResult}
+use Rattle.partition.specs.code.PartitionAnswers.{checkedResult, bytesResult}
 use Rattle.transform.specs.Truncate.{firstCodePoints}
 use Rattle.partition.specs.declared.bytes.BytesResult.{BytesResult}
 use Rattle.partition.specs.declared.bytes.BytesResult.the-variants as bytes-result

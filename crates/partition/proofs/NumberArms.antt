@@ -5,10 +5,10 @@ use mathlib.Core.Path.{_≡_, refl, sym, ap, _∙_}
 use lib.IntN.{ℤ}
 use mir.Syntax.{w32, w64}
 use mir.Val.{SFits, toZ, ofZ}
-use Rattle.values.specs.SignedLaws.{back}
-use Rattle.values.specs.RangeLaws.{in-type, four, widen}
+use Rattle.values.specs.laws.SignedLaws.{back}
+use Rattle.values.specs.laws.RangeLaws.{in-type, four, widen}
 use Rattle.transform.specs.Floor.{floorDiv}
-use Rattle.transform.specs.FloorLaws.{floor-one}
+use Rattle.transform.specs.laws.FloorLaws.{floor-one}
 use Rattle.transform.specs.Calendar.{inCalendar}
 use Rattle.transform.specs.Temporal.{unitOf, perHour, perDay, dayOf, hourOf}
 use Rattle.transform.specs.declared.calendar.Days.{Days}
@@ -26,8 +26,8 @@ use Rattle.values.specs.declared.datatypes.PrimitiveType.{PrimitiveType}
 use Rattle.values.specs.declared.datatypes.PrimitiveType.the-variants.{Int, Long, Date, Time, Timestamp, Timestamptz, TimestampNs, TimestamptzNs, String, Binary}
 use Rattle.values.specs.declared.transform.Transform.{Transform}
 use Rattle.partition.specs.Partition.{outsideCalendar, byCalendar, dayNumber, intHour, hourNumber, byTransform, transformNumber, checked, partition, numberPartition}
-use Rattle.transform.specs.Answers.{counted}
-use Rattle.partition.specs.Answers.{dayResult, numberResult, numberRow, checkedResult}
+use Rattle.transform.specs.code.TransformAnswers.{counted}
+use Rattle.partition.specs.code.PartitionAnswers.{dayResult, numberResult, numberRow, checkedResult}
 use Rattle.partition.specs.declared.number.NumberResult.{NumberResult}
 use Rattle.partition.specs.declared.number.NumberResult.the-variants as number-result
 use Rattle.partition.specs.declared.number.NumberRow.{NumberRow}

@@ -5,7 +5,7 @@ use mathlib.Core.Path.{_≡_, refl, sym, _∙_}
 use Rattle.transform.specs.Temporal.{unitOf, perHour, perDay}
 use Rattle.transform.specs.declared.temporal.TimeUnit.{TimeUnit}
 use Rattle.values.specs.Outcomes.{Res, ok, err}
-use Rattle.values.specs.Answers.{typeResult}
+use Rattle.values.specs.code.TypeResults.{typeResult}
 use Rattle.values.specs.declared.error.ErrorKind.{ErrorKind}
 use Rattle.values.specs.declared.error.ErrorKind.the-variants.{NoResultType, FeatureUnsupported}
 use Rattle.values.specs.declared.datatypes.PrimitiveType.{PrimitiveType}
@@ -14,7 +14,7 @@ use Rattle.values.specs.declared.datatypes.TypeResult.the-variants as type-resu
 use Rattle.values.specs.declared.transform.Transform.{Transform}
 use Rattle.partition.specs.ResultType.{truncates, truncateType, withDays, withHours, resultType}
 use Rattle.partition.specs.Partition.{known, checked}
-use Rattle.partition.specs.Answers.{checkedResult}
+use Rattle.partition.specs.code.PartitionAnswers.{checkedResult}
 use Rattle.partition.specs.declared.result.Checked.the-variants as checked-as
 use Rattle.partition.proofs.Units.{units}
 

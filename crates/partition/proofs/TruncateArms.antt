@@ -11,16 +11,16 @@ use mir.Syntax.{w32, w64}
 use mir.Val.{Fits, SFits, toZ, ofZ, hbits}
 use Rattle.values.specs.Outcomes.{Res, ok, err, need, _>>_, Row, present}
 use Rattle.values.specs.Types.{inType}
-use Rattle.values.specs.SignedLaws.{back}
-use Rattle.values.specs.SignedLaws as range
-use Rattle.values.specs.RangeLaws.{in-long, in-type-long}
+use Rattle.values.specs.laws.SignedLaws.{back}
+use Rattle.values.specs.laws.SignedLaws as range
+use Rattle.values.specs.laws.RangeLaws.{in-long, in-type-long}
 use Rattle.values.specs.declared.error.ErrorKind.the-variants as error
 use Rattle.values.specs.declared.datatypes.PrimitiveType.{PrimitiveType}
 use Rattle.values.specs.declared.datatypes.PrimitiveType.the-variants.{Long}
 use Rattle.transform.specs.Truncate.{truncated, widest}
 use Rattle.partition.specs.Partition.{truncateNumber}
-use Rattle.transform.specs.Answers.{truncatedLong}
-use Rattle.partition.specs.Answers.{numberResult}
+use Rattle.transform.specs.code.TransformAnswers.{truncatedLong}
+use Rattle.partition.specs.code.PartitionAnswers.{numberResult}
 use Rattle.partition.specs.declared.number.NumberResult.{NumberResult}
 use Rattle.partition.specs.declared.number.NumberResult.the-variants as result
 use Rattle.transform.specs.declared.truncate.Truncated.{Truncated}

@@ -8,7 +8,7 @@ use values::transform::Transform;
 ghost use mathlib.Core.Path.{_≡_};
 ghost use Rattle.values.specs.Outcomes.{row};
 ghost use Rattle.partition.specs.Partition.{truncateBytes, transformBytes, bytesPartition};
-ghost use Rattle.partition.specs.Answers.{bytesResult};
+ghost use Rattle.partition.specs.code.PartitionAnswers.{bytesResult};
 
 // What a transform makes of a String or Binary: missing, so many of its first bytes, or a refusal.
 pub enum BytesResult {

@@ -18,7 +18,7 @@ ghost use Rattle.values.specs.Types.{inType};
 ghost use Rattle.transform.specs.Calendar.{yearOf, monthOf};
 ghost use Rattle.transform.specs.Temporal.{unitOf, dayOf};
 ghost use Rattle.partition.specs.Partition.{outsideCalendar, byCalendar, dayNumber, intHour, hourNumber, truncateNumber, transformNumber, numberPartition};
-ghost use Rattle.partition.specs.Answers.{dayResult, numberResult, numberRow};
+ghost use Rattle.partition.specs.code.PartitionAnswers.{dayResult, numberResult, numberRow};
 
 // What a transform makes of a number.
 pub enum NumberResult {

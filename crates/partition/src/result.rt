@@ -6,10 +6,10 @@ use values::datatypes::TypeResult;
 use values::error::ErrorKind;
 use values::transform::Transform;
 ghost use mathlib.Core.Path.{_≡_};
-ghost use Rattle.values.specs.Answers.{typeResult};
+ghost use Rattle.values.specs.code.TypeResults.{typeResult};
 ghost use Rattle.partition.specs.ResultType.{truncates, truncateType, withDays, withHours, resultType};
 ghost use Rattle.partition.specs.Partition.{known, checked};
-ghost use Rattle.partition.specs.Answers.{checkedResult};
+ghost use Rattle.partition.specs.code.PartitionAnswers.{checkedResult};
 
 fn truncates_type(column: PrimitiveType) -> bool
     ensures { λ r. ⌜ r ≡ truncates column ⌝ }

@@ -1,19 +1,8 @@
--- The definitions of `projection`, in the order in which to read them, and then the laws about them.
+-- The definitions of `projection`, in the order in which to read them.
 pub mod Steps
 pub mod NumberSteps
 pub mod Lifting
 pub mod ByteSteps
 pub mod Projection
-pub mod Demand
-pub mod Answers
-pub mod RowLaws
-pub mod StepLaws
-pub mod LiftingLaws
-pub mod NumberLaws
-pub mod ProjectionLaws
-pub mod NumberRowLaws
-pub mod ByteLaws
-pub mod SoundLaws
-pub mod DemandLaws
-pub mod LiteralLaws
-pub mod LandingLaws
+pub mod code
+pub mod laws

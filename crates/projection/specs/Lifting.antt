@@ -10,7 +10,7 @@ use Rattle.values.specs.declared.datatypes.PrimitiveType.{PrimitiveType}
 use Rattle.values.specs.declared.datatypes.PrimitiveType.the-variants.{Timestamp}
 use Rattle.values.specs.declared.transform.Transform.{Transform}
 use Rattle.values.specs.declared.transform.Transform.the-variants.{Identity, Truncate, Year, Month, Day, Hour, Void, Unknown}
-use Rattle.expr.specs.Operators.{less, atMost, greater, atLeast, equal, notEqual, startsWith, notStartsWith, within, outside}
+use Rattle.expr.specs.Operators.{lessThan, lessThanOrEq, greaterThan, greaterThanOrEq, eq, notEq, startsWith, notStartsWith, isIn, notIn}
 use Rattle.expr.specs.Predicates.{Test, binary, set}
 
 -- 01: "Lifted: Year, Month, and Day of Timestamp only"
@@ -35,19 +35,19 @@ withNexts (t ∷ ts) = withNext t (withNexts ts)
 
 -- 01: "Inclusive with a negative T: < and ≤ use T+1; Eq becomes In of T and T+1; In adds T+1"; both < and ≤ have become ≤
 abbrev pub lift : Test ℤ → Test ℤ
-lift (binary less t) = binary less t
-lift (binary atMost (pos n)) = binary atMost (pos n)
-lift (binary atMost (negsuc n)) = binary atMost (sucℤ (negsuc n))
-lift (binary greater t) = binary greater t
-lift (binary atLeast t) = binary atLeast t
-lift (binary equal (pos n)) = binary equal (pos n)
-lift (binary equal (negsuc n)) = set within (withNext (negsuc n) [])
-lift (binary notEqual t) = binary notEqual t
+lift (binary lessThan t) = binary lessThan t
+lift (binary lessThanOrEq (pos n)) = binary lessThanOrEq (pos n)
+lift (binary lessThanOrEq (negsuc n)) = binary lessThanOrEq (sucℤ (negsuc n))
+lift (binary greaterThan t) = binary greaterThan t
+lift (binary greaterThanOrEq t) = binary greaterThanOrEq t
+lift (binary eq (pos n)) = binary eq (pos n)
+lift (binary eq (negsuc n)) = set isIn (withNext (negsuc n) [])
+lift (binary notEq t) = binary notEq t
 lift (binary startsWith t) = binary startsWith t
 lift (binary notStartsWith t) = binary notStartsWith t
-lift (set within ts) = set within (ascending compareNumbers (withNexts ts))
-lift (set outside ts) = set outside ts
+lift (set isIn ts) = set isIn (ascending compareNumbers (withNexts ts))
+lift (set notIn ts) = set notIn ts
 
 -- Eq −1 becomes In of −1 and 0
-eq-lifted : lift (binary equal (negsuc 0)) ≡ set within (negsuc 0 ∷ pos 0 ∷ [])
+eq-lifted : lift (binary eq (negsuc 0)) ≡ set isIn (negsuc 0 ∷ pos 0 ∷ [])
 eq-lifted = refl

@@ -3,40 +3,40 @@ use mathlib.Core.Path.{_≡_, refl}
 use lib.IntN.{ℤ, pos, sucℤ, predℤ}
 use Rattle.values.specs.Order.{compareNumbers}
 use Rattle.values.specs.Outcomes.{Res, ok}
-use Rattle.expr.specs.Operators.{less, atMost, greater, atLeast, equal, notEqual, startsWith, notStartsWith, within, outside}
+use Rattle.expr.specs.Operators.{lessThan, lessThanOrEq, greaterThan, greaterThanOrEq, eq, notEq, startsWith, notStartsWith, isIn, notIn}
 use Rattle.expr.specs.Predicates.{Test, binary, set}
 use Rattle.projection.specs.Steps.{Projected, some, none, withLiteral, withEach}
 
 module _ (T : ℤ → Res ℤ) where
   -- 01's table, its column Inclusive
   abbrev pub inclusiveNumber : Test ℤ → Res (Projected (Test ℤ))
-  inclusiveNumber (binary less l) = withLiteral atMost (T (predℤ l))
-  inclusiveNumber (binary atMost l) = withLiteral atMost (T l)
-  inclusiveNumber (binary greater l) = withLiteral atLeast (T (sucℤ l))
-  inclusiveNumber (binary atLeast l) = withLiteral atLeast (T l)
-  inclusiveNumber (binary equal l) = withLiteral equal (T l)
-  inclusiveNumber (binary notEqual l) = ok none
+  inclusiveNumber (binary lessThan l) = withLiteral lessThanOrEq (T (predℤ l))
+  inclusiveNumber (binary lessThanOrEq l) = withLiteral lessThanOrEq (T l)
+  inclusiveNumber (binary greaterThan l) = withLiteral greaterThanOrEq (T (sucℤ l))
+  inclusiveNumber (binary greaterThanOrEq l) = withLiteral greaterThanOrEq (T l)
+  inclusiveNumber (binary eq l) = withLiteral eq (T l)
+  inclusiveNumber (binary notEq l) = ok none
   inclusiveNumber (binary startsWith l) = withLiteral startsWith (T l)
   inclusiveNumber (binary notStartsWith l) = withLiteral notStartsWith (T l)
-  inclusiveNumber (set within ls) = withEach compareNumbers within T ls
-  inclusiveNumber (set outside ls) = ok none
+  inclusiveNumber (set isIn ls) = withEach compareNumbers isIn T ls
+  inclusiveNumber (set notIn ls) = ok none
 
   -- 01's table, its column Strict
   abbrev pub strictNumber : Test ℤ → Res (Projected (Test ℤ))
-  strictNumber (binary less l) = withLiteral less (T l)
-  strictNumber (binary atMost l) = withLiteral less (T (sucℤ l))
-  strictNumber (binary greater l) = withLiteral greater (T l)
-  strictNumber (binary atLeast l) = withLiteral greater (T (predℤ l))
-  strictNumber (binary equal l) = ok none
-  strictNumber (binary notEqual l) = withLiteral notEqual (T l)
+  strictNumber (binary lessThan l) = withLiteral lessThan (T l)
+  strictNumber (binary lessThanOrEq l) = withLiteral lessThan (T (sucℤ l))
+  strictNumber (binary greaterThan l) = withLiteral greaterThan (T l)
+  strictNumber (binary greaterThanOrEq l) = withLiteral greaterThan (T (predℤ l))
+  strictNumber (binary eq l) = ok none
+  strictNumber (binary notEq l) = withLiteral notEq (T l)
   strictNumber (binary startsWith l) = ok none
   strictNumber (binary notStartsWith l) = ok none
-  strictNumber (set within ls) = ok none
-  strictNumber (set outside ls) = withEach compareNumbers outside T ls
+  strictNumber (set isIn ls) = ok none
+  strictNumber (set notIn ls) = withEach compareNumbers notIn T ls
 
 -- with a transform that changes nothing: < 3 is ≤ 2, and stays < 3
-less-inclusive : inclusiveNumber ok (binary less (pos 3)) ≡ ok (some (binary atMost (pos 2)))
+less-inclusive : inclusiveNumber ok (binary lessThan (pos 3)) ≡ ok (some (binary lessThanOrEq (pos 2)))
 less-inclusive = refl
 
-less-strict : strictNumber ok (binary less (pos 3)) ≡ ok (some (binary less (pos 3)))
+less-strict : strictNumber ok (binary lessThan (pos 3)) ≡ ok (some (binary lessThan (pos 3)))
 less-strict = refl

@@ -3,8 +3,8 @@ use Prim.Native.Nat.{ℕ, _-_}
 use mathlib.Core.Bool.{true, false}
 use mathlib.Core.List.{List}
 use mathlib.Core.Path.{_≡_, sym, _∙_}
-use Rattle.values.specs.AnswerLaws.{type-told, transform-told}
-use Rattle.values.specs.Answers.{typeResult, transformResult}
+use Rattle.values.specs.laws.TypeResultLaws.{type-told, transform-told}
+use Rattle.values.specs.code.TypeResults.{typeResult, transformResult}
 use Rattle.values.specs.Numbered.{find}
 use Rattle.values.specs.Outcomes.{Res, ok, err}
 use Rattle.values.specs.Transforms.{transformOf}
@@ -16,11 +16,11 @@ use Rattle.values.specs.declared.error.ErrorKind.{ErrorKind}
 use Rattle.values.specs.declared.error.ErrorKind.the-variants.{Malformed}
 use Rattle.values.specs.declared.transform.Transform.{Transform}
 use Rattle.values.specs.declared.transform.TransformResult.{TransformResult}
-use Rattle.expr.specs.Answers.{operatorResult}
+use Rattle.expr.specs.code.OperatorAnswers.{operatorResult}
 use Rattle.expr.specs.Operators.{operators}
 use Rattle.expr.specs.declared.operator.OperatorResult.{OperatorResult}
 use Rattle.expr.specs.declared.operator.PredicateOperator.{PredicateOperator}
-use Rattle.sheet.specs.ReadAnswers.{headIn, headResult}
+use Rattle.sheet.specs.code.ReadAnswers.{headIn, headResult}
 use Rattle.sheet.specs.Records.{recordSize}
 use Rattle.sheet.specs.Sheets.{head}
 use Rattle.sheet.specs.declared.head.HeadResult.the-variants as head-result

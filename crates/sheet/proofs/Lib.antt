@@ -1,8 +1,8 @@
 -- Lemmas that several proofs of this crate share.
-pub mod Arms
+pub mod ColumnArms
 pub mod Heads
 pub mod SheetReads
-pub mod Values
+pub mod ValueReads
 pub mod Walks
 pub mod Zeros
 pub mod Turns

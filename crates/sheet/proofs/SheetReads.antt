@@ -8,18 +8,18 @@ use mathlib.Core.Path.{_≡_, refl, sym, ap, subst, _∙_}
 use lib.ListN.{length, getD, take, length-map}
 use lib.Seq.{getD-take}
 use borrow.Author.Tests.{lt-ltb, le-ltb, le-leb, lt-leb, eq-eqb, ne-eqb}
-use Rattle.values.specs.OutcomeLaws.{ok-inj, ok-not-err}
+use Rattle.values.specs.laws.OutcomeLaws.{ok-inj, ok-not-err}
 use Rattle.values.specs.Outcomes.{Res, ok, err, _>>=_}
 use Rattle.values.specs.Types.{layout}
 use Rattle.values.specs.declared.error.ErrorKind.{ErrorKind}
 use Rattle.values.specs.declared.error.ErrorKind.the-variants.{Malformed}
-use Rattle.expr.specs.Operators.{arity, takes}
-use Rattle.sheet.specs.ReadAnswers.{contentAt, recordCount, malformedChain, walkedAs, Stored, headIn, headResult, sheetResult, LiteralsRead, numbersFrom}
+use Rattle.expr.specs.Operators.{byArity, takes}
+use Rattle.sheet.specs.code.ReadAnswers.{contentAt, recordCount, malformedChain, walkedAs, Stored, headIn, headResult, sheetResult, LiteralsRead, recordsFrom}
 use Rattle.sheet.specs.Records.{recordSize}
-use Rattle.sheet.specs.StepLaws.{withChain, sheet-steps, Made, predicate-made, predicate-refused}
+use Rattle.sheet.specs.laws.SheetStepLaws.{withChain, sheet-steps, Made, predicate-made, predicate-refused}
 use Rattle.sheet.specs.Sheets.{Sheet, sheet, holdsLimit}
-use Rattle.sheet.specs.RefusalLaws.{OnlyMalformed}
-use Rattle.sheet.specs.WalkLaws.{walk-malformed, few-above, literals-above, literal-at}
+use Rattle.sheet.specs.laws.RefusalLaws.{OnlyMalformed}
+use Rattle.sheet.specs.laws.WalkLaws.{walk-malformed, few-above, literals-above, literal-at}
 use Rattle.sheet.specs.declared.head.Head.{Head}
 use Rattle.sheet.specs.declared.head.HeadResult.{HeadResult}
 use Rattle.sheet.specs.declared.sheet.SheetResult.{SheetResult}
@@ -44,10 +44,10 @@ found-some count (ok ns) e d = (ns, refl, omega arith)
 found-some count (err k) e d = absurd (d e)
 
 -- ---- the returns
-module _ (most : ℕ) (s numbers : List ℕ) where
-  -- a sheet that is answered so, with the numbers left so
+module _ (most : ℕ) (s records : List ℕ) where
+  -- a sheet that is answered so, with the records left so
   abbrev pub Answered : SheetResult → Type 0
-  Answered r = (r ≡ sheetResult (sheet most s)) × ((x : Sheet) → sheet most s ≡ ok x → LiteralsRead s numbers x)
+  Answered r = (r ≡ sheetResult (sheet most s)) × ((x : Sheet) → sheet most s ≡ ok x → LiteralsRead s records x)
 
   refused : {e : ErrorKind} → sheet most s ≡ err e → Answered (sheet-result.Err e)
   refused d = (rw d, λ x q. ok-not-err (sym d ∙ q))
@@ -83,7 +83,7 @@ module _ (most : ℕ) (s numbers : List ℕ) where
         pub no-head : {e : ErrorKind} → headIn s ≡ err e → Answered (sheet-result.Err e)
         no-head d = refused (rw (steps, d))
 
-        module _ (h : Head) (is-head : headIn s ≡ ok h) (count : ℕ) (walks : count ≡ walkedAs 0 (numbersFrom (layout (h .column)) s 0)) where
+        module _ (h : Head) (is-head : headIn s ≡ ok h) (count : ℕ) (walks : count ≡ walkedAs 0 (recordsFrom (layout (h .column)) s 0)) where
           pub no-chain : most ≤ holdsLimit → count ≡ malformedChain → Answered (sheet-result.Err Malformed)
           no-chain limit d =
               let l = layout (h .column) in
@@ -92,35 +92,35 @@ module _ (most : ℕ) (s numbers : List ℕ) where
               refused (rw (steps, is-head, e))
 
           module _ (sound : count ≡ malformedChain → ⊥) where
-            pub wrong-count : takes (arity (h .operator)) count ≡ false → Answered (sheet-result.Err Malformed)
+            pub wrong-count : takes (byArity (h .operator)) count ≡ false → Answered (sheet-result.Err Malformed)
             wrong-count t =
-                let f = found-some count (numbersFrom (layout (h .column)) s 0) walks sound in
+                let f = found-some count (recordsFrom (layout (h .column)) s 0) walks sound in
                 let ls = map (contentAt s) (f .0) in
                 let n : count ≡ length ls = f .2 ∙ sym (length-map (f .0) (contentAt s)) in
                 refused (rw (steps, is-head, f .1, predicate-refused (h .operator) ls (rw n at t)))
 
-            module _ (before : List ℕ) (stored : Stored 0 (numbersFrom (layout (h .column)) s 0) before numbers) where
-              read-so : (ns : List ℕ) → numbersFrom (layout (h .column)) s 0 ≡ ok ns → count ≡ length ns → Made (h .operator) (map (contentAt s) ns)
+            module _ (before : List ℕ) (stored : Stored 0 (recordsFrom (layout (h .column)) s 0) before records) where
+              read-so : (ns : List ℕ) → recordsFrom (layout (h .column)) s 0 ≡ ok ns → count ≡ length ns → Made (h .operator) (map (contentAt s) ns)
                   → Answered (sheet-result.Ok (record { head = h; count = count }))
               read-so ns e n made =
                   let x : Sheet = record { head = record { column = h .column; transform = h .transform }; leaf = made .leaf } in
                   let is : sheet most s ≡ ok x = rw (steps, is-head, e, made .made) in
-                  let front : take (length ns) numbers ≡ ns = rw (zero-add) at (stored .stored ns e) in
+                  let front : take (length ns) records ≡ ns = rw (zero-add) at (stored .stored ns e) in
                   let above = literals-above (layout (h .column)) s 0 (omega arith) e in (
                     rw (is, made .operator, made .literals, length-map, n),
-                    λ y q. subst (LiteralsRead s numbers) (ok-inj (sym is ∙ q))
+                    λ y q. subst (LiteralsRead s records) (ok-inj (sym is ∙ q))
                         (record {
                           literals = rw (made .literals, length-map, front);
                           each = λ i k.
                               let j : i < length ns = simp (made .literals, length-map) at k in
-                              let same : getD ns i 0 ≡ getD numbers i 0 = ap (λ (l : List ℕ). getD l i 0) (sym front) ∙ getD-take (length ns) numbers i 0 j in
+                              let same : getD ns i 0 ≡ getD records i 0 = ap (λ (l : List ℕ). getD l i 0) (sym front) ∙ getD-take (length ns) records i 0 j in
                               rw (← same) (literal-at (h .column) s above i j);
                         }),
                   )
 
-              pub sheet-read : takes (arity (h .operator)) count ≡ true → Answered (sheet-result.Ok (record { head = h; count = count }))
+              pub sheet-read : takes (byArity (h .operator)) count ≡ true → Answered (sheet-result.Ok (record { head = h; count = count }))
               sheet-read t =
-                  let f = found-some count (numbersFrom (layout (h .column)) s 0) walks sound in
+                  let f = found-some count (recordsFrom (layout (h .column)) s 0) walks sound in
                   let ls = map (contentAt s) (f .0) in
                   let n : count ≡ length ls = f .2 ∙ sym (length-map (f .0) (contentAt s)) in
                   read-so (f .0) (f .1) (f .2) (predicate-made (h .operator) ls (rw n at t))

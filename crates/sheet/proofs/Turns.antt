@@ -1,4 +1,4 @@
--- The loops over the literals that numbers name: a member is tested in each turn, and the members from index i on answer for all. Assumes nothing.
+-- The loops over the literals in records: a member is tested in each turn, and the members from index i on answer for all. Assumes nothing.
 use Prim.Native.Nat.{ℕ, _+_, _≤_, _<_}
 use native.Mathlib.Numerals.{add-one}
 use native.Mathlib.Omega.{arith}
@@ -11,15 +11,15 @@ use lib.Seq.{slice, slice-cons, slice-empty}
 use mir.Syntax.{w64}
 use mir.Val.{SFits, toZ, ofZ}
 use Rattle.values.specs.Ascending.{elem}
-use Rattle.values.specs.SignedLaws.{back, eq-taken}
+use Rattle.values.specs.laws.SignedLaws.{back, eq-taken}
 use Rattle.values.specs.Order.{compareNumbers, isEqual}
-use Rattle.values.specs.OrderLaws.{number-equal, is-equal}
-use Rattle.values.specs.TestLaws.{refuted}
+use Rattle.values.specs.laws.OrderLaws.{number-equal, is-equal}
+use Rattle.values.specs.laws.TestLaws.{refuted}
 use Rattle.values.specs.Utf8.{utf8}
 use Rattle.values.specs.declared.order.Ordering.{Ordering}
-use Rattle.sheet.specs.Contents.{allUtf8}
+use Rattle.sheet.specs.code.Contents.{allUtf8}
 
--- an answer over numbers that the first member found by a test settles
+-- an answer over records that the first member found by a test settles
 pub record Search (answer : List ℕ → Bool) (found : ℕ → Bool) (settled : Bool) : Type 0 where
   pub none : answer [] ≡ not settled
   pub one : (k : ℕ) (ks : List ℕ) → answer (k ∷ ks) ≡ cond (found k) settled (answer ks)
@@ -40,19 +40,19 @@ for-no-utf8 f = record { none = refl; one = λ k ks. and-cond (utf8 (f k)) (allU
     and-cond false b = refl
 
 module _ {answer : List ℕ → Bool} {found : ℕ → Bool} {settled : Bool} (search : Search answer found settled)
-    (numbers : List ℕ) (i count : ℕ) (same : answer (slice i count numbers) ≡ answer (take count numbers)) where
-  module _ (less : i < count) (room : count ≤ length numbers) where
-    here : answer (take count numbers) ≡ cond (found (getD numbers i 0)) settled (answer (slice (i + 1) count numbers))
-    here = sym same ∙ ap answer (slice-cons i count numbers 0 less room) ∙ search .one _ _ ∙ rw add-one
+    (records : List ℕ) (i count : ℕ) (same : answer (slice i count records) ≡ answer (take count records)) where
+  module _ (less : i < count) (room : count ≤ length records) where
+    here : answer (take count records) ≡ cond (found (getD records i 0)) settled (answer (slice (i + 1) count records))
+    here = sym same ∙ ap answer (slice-cons i count records 0 less room) ∙ search .one _ _ ∙ rw add-one
 
-    pub found-here : found (getD numbers i 0) ≡ true → settled ≡ answer (take count numbers)
+    pub found-here : found (getD records i 0) ≡ true → settled ≡ answer (take count records)
     found-here h = sym (here ∙ rw h)
 
-    pub not-here : found (getD numbers i 0) ≡ false → answer (slice (i + 1) count numbers) ≡ answer (take count numbers)
+    pub not-here : found (getD records i 0) ≡ false → answer (slice (i + 1) count records) ≡ answer (take count records)
     not-here h = sym (here ∙ rw h)
 
-  pub nowhere : i ≤ count → count ≤ i → not settled ≡ answer (take count numbers)
-  nowhere h k = let e : i ≡ count = omega arith in sym (search .none) ∙ ap answer (sym (slice-empty count numbers) ∙ rw (← e)) ∙ same
+  pub nowhere : i ≤ count → count ≤ i → not settled ≡ answer (take count records)
+  nowhere h k = let e : i ≡ count = omega arith in sym (search .none) ∙ ap answer (sym (slice-empty count records) ∙ rw (← e)) ∙ same
 
 -- the code's test that two numbers are equal, one of them a local's
 module _ {v l z : ℤ} (f : SFits w64 v) (g : SFits w64 l) (is : l ≡ z) where

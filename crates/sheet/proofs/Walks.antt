@@ -1,4 +1,4 @@
--- The returns of `literal_after` and of `walk`: the number of the next literal, and what a walk leaves in the numbers. Assumes nothing.
+-- The returns of `literal_after` and of `walk`: the number of the next literal, and what a walk leaves in `records`. Assumes nothing.
 use Prim.Native.Nat.{ℕ, suc, _+_, _*_, _≤_, _<_}
 use native.Mathlib.Nat.{add-zero}
 use native.Mathlib.Numerals.{add-one}
@@ -10,16 +10,16 @@ use lib.Dec.{ltb}
 use lib.ListN.{length, take, set, length-set}
 use lib.Seq.{take-suc-set, append-snoc}
 use borrow.Author.Tests.{lt-ltb, ltb-true, eq-eqb, ne-eqb}
-use Rattle.values.specs.OutcomeLaws.{ok-inj, ok-not-err}
+use Rattle.values.specs.laws.OutcomeLaws.{ok-inj, ok-not-err}
 use Rattle.values.specs.Outcomes.{Res, ok, err, _>>=_}
-use Rattle.values.specs.TestLaws.{refuted, and-both}
+use Rattle.values.specs.laws.TestLaws.{refuted, and-both}
 use Rattle.values.specs.Types.{Layout}
 use Rattle.values.specs.Words.{word}
-use Rattle.sheet.specs.ReadAnswers.{isOk, recordCount, malformedChain, literalAfter, walkedAs, Stored, numbersFrom}
-use Rattle.sheet.specs.PartLaws.{next-here}
+use Rattle.sheet.specs.code.ReadAnswers.{isOk, recordCount, malformedChain, literalAfter, walkedAs, Stored, recordsFrom}
+use Rattle.sheet.specs.laws.PartLaws.{next-here}
 use Rattle.sheet.specs.Records.{recordSize, nextIn, content, recordAt}
 use Rattle.sheet.specs.Sheets.{holdsLimit}
-use Rattle.sheet.specs.WalkLaws.{Next, After, walk-ends, walk-breaks}
+use Rattle.sheet.specs.laws.WalkLaws.{Next, After, walk-ends, walk-breaks}
 
 -- ---- the returns of `literal_after`, by the next that it reads
 module _ (l : Layout) (s : List ℕ) (at n : ℕ) (is : n ≡ word (recordSize * at) 2 s) where
@@ -46,11 +46,11 @@ module _ (l : Layout) (s : List ℕ) (at n : ℕ) (is : n ≡ word (recordSize *
             f (ltb-true at n (y .0)) (ltb-true n (recordCount s) (y .1)) (x .1),
       )
 
--- ---- what a return of the walk leaves in the numbers
+-- ---- what a return of the walk leaves in `records`
 
--- the walk after record `at` finds what it answers, and leaves it in the numbers
+-- the walk after record `at` finds what it answers, and leaves it in `records`
 abbrev pub Ends : Layout → List ℕ → ℕ → ℕ → List ℕ → ℕ → List ℕ → Type 0
-Ends l s at filled before r after = (r ≡ walkedAs filled (numbersFrom l s at)) × Stored filled (numbersFrom l s at) before after
+Ends l s at filled before r after = (r ≡ walkedAs filled (recordsFrom l s at)) × Stored filled (recordsFrom l s at) before after
 
 module _ {l : Layout} {s : List ℕ} {at n filled : ℕ} {before : List ℕ} where
   pub ended : After l s at n → n ≡ 0 → Ends l s at filled before filled before
@@ -64,7 +64,7 @@ module _ {l : Layout} {s : List ℕ} {at n filled : ℕ} {before : List ℕ} whe
   broken x h z = let e = walk-breaks x h z in (rw e, record { stored = λ ns d. ok-not-err (sym e ∙ d); kept = refl })
 
   module _ {r : ℕ} {after : List ℕ} (is : Next l s at n) (room : filled < length before) (rest : Ends l s n (filled + 1) (set before filled n) r after) where
-    one-more : (x : Res (List ℕ)) → numbersFrom l s n ≡ x → numbersFrom l s at ≡ (x >>= λ ns. ok (n ∷ ns)) → Ends l s at filled before r after
+    one-more : (x : Res (List ℕ)) → recordsFrom l s n ≡ x → recordsFrom l s at ≡ (x >>= λ ns. ok (n ∷ ns)) → Ends l s at filled before r after
     one-more (ok ns) q f =
         let more : filled + suc (length ns) ≡ filled + 1 + length ns = omega arith in (
           rest .0 ∙ rw (q, f) (sym more),
@@ -78,4 +78,4 @@ module _ {l : Layout} {s : List ℕ} {at n filled : ℕ} {before : List ℕ} whe
     one-more (err e) q f = (rest .0 ∙ rw (q, f), record { stored = λ ms d. ok-not-err (sym f ∙ d); kept = rest .1 .kept ∙ length-set before filled n })
 
     pub gone-on : Ends l s at filled before r after
-    gone-on = one-more (numbersFrom l s n) refl (is .more)
+    gone-on = one-more (recordsFrom l s n) refl (is .more)

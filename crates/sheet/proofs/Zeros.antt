@@ -9,9 +9,9 @@ use lib.Bits.{bitOr, or-add-and, and-le-r}
 use lib.Dec.{eqb}
 use lib.ListN.{getD}
 use borrow.Author.Tests.{eq-eqb, ne-eqb}
-use Rattle.values.specs.WordLaws.{word-one}
+use Rattle.values.specs.laws.WordLaws.{word-one}
 use Rattle.values.specs.Words.{word, zeroAt}
-use Rattle.sheet.specs.PartLaws.{zero-split}
+use Rattle.sheet.specs.laws.PartLaws.{zero-split}
 
 -- t is a test of some bytes of a run, the first i among them, so it and the bytes after those answer for the run
 pub record Run (s : List ℕ) (at n i : ℕ) (t : Bool) : Type 0 where

@@ -1,7 +1,7 @@
 // The walk along the chain of a sheet's records.
-use crate::literal::literal_ok;
+use crate::literal::is_literal;
+use crate::records::HOLDS_LIMIT;
 use crate::records::RECORD_SIZE;
-use crate::sheet::HOLDS_LIMIT;
 use values::datatypes::PrimitiveType;
 use values::words::u16_at;
 ghost use mathlib.Core.Path.{_≡_};
@@ -10,7 +10,7 @@ ghost use lib.ListN.{length};
 ghost use Rattle.values.specs.Types.{layout};
 ghost use Rattle.sheet.specs.Records.{recordSize};
 ghost use Rattle.sheet.specs.Sheets.{holdsLimit};
-ghost use Rattle.sheet.specs.ReadAnswers.{recordCount, literalAfter, walkedAs, Stored, numbersFrom};
+ghost use Rattle.sheet.specs.code.ReadAnswers.{recordCount, literalAfter, walkedAs, Stored, recordsFrom};
 
 // What stands for a malformed chain: more literals than any sheet has.
 pub const MALFORMED_CHAIN: usize = HOLDS_LIMIT + 1;
@@ -30,22 +30,22 @@ fn literal_after(s: &[u8], column: PrimitiveType, at: usize) -> usize
     if s.len() / RECORD_SIZE <= next {
         return MALFORMED_CHAIN;
     }
-    if literal_ok(s, next, column) {
+    if is_literal(s, next, column) {
         return next;
     }
     MALFORMED_CHAIN
 }
 
-// The literals after record `at` on its chain: each is tested, and its number goes into `numbers`, after the first `filled`.
+// The literals after record `at` on its chain: each is tested, and its number goes into `records`, after the first `filled`.
 // Gives their count, the first `filled` included: a plain number, since an enum would be copied at every step.
 // Two at each call: a processor predicts only so many returns, and one call for each of 64 literals would be too deep.
-pub fn walk(s: &[u8], column: PrimitiveType, at: usize, filled: usize, numbers: &mut [u16]) -> usize
+pub fn walk(s: &[u8], column: PrimitiveType, at: usize, filled: usize, records: &mut [u16]) -> usize
     requires { ⌜ length (now s) ≤ recordSize * suc holdsLimit ⌝ }
     requires { ⌜ at < recordCount (now s) ⌝ }
     requires { ⌜ filled ≤ at ⌝ }
-    requires { ⌜ holdsLimit ≤ length (now numbers) ⌝ }
-    ensures { λ r. ⌜ r ≡ walkedAs filled (numbersFrom (layout column) (now (s .entry)) at) ⌝ }
-    ensures { λ r. ⌜ Stored filled (numbersFrom (layout column) (now (s .entry)) at) (now (numbers .entry)) (now (numbers .exit)) ⌝ }
+    requires { ⌜ holdsLimit ≤ length (now records) ⌝ }
+    ensures { λ r. ⌜ r ≡ walkedAs filled (recordsFrom (layout column) (now (s .entry)) at) ⌝ }
+    ensures { λ r. ⌜ Stored filled (recordsFrom (layout column) (now (s .entry)) at) (now (records .entry)) (now (records .exit)) ⌝ }
 {
     let n = literal_after(s, column, at);
     if n == 0 {
@@ -54,7 +54,7 @@ pub fn walk(s: &[u8], column: PrimitiveType, at: usize, filled: usize, numbers: 
     if n == MALFORMED_CHAIN {
         return MALFORMED_CHAIN;
     }
-    numbers[filled] = n as u16;
+    records[filled] = n as u16;
     let m = literal_after(s, column, n);
     if m == 0 {
         return filled + 1;
@@ -62,7 +62,7 @@ pub fn walk(s: &[u8], column: PrimitiveType, at: usize, filled: usize, numbers: 
     if m == MALFORMED_CHAIN {
         return MALFORMED_CHAIN;
     }
-    numbers[filled + 1] = m as u16;
+    records[filled + 1] = m as u16;
     // `&*s` copies address and length one by one, which the next call need not wait for.
-    walk(&*s, column, m, filled + 2, numbers)
+    walk(&*s, column, m, filled + 2, records)
 }

@@ -11,18 +11,18 @@ ghost use lib.ListN.{length};
 ghost use Rattle.values.specs.Types.{layout, sameType};
 ghost use Rattle.values.specs.Words.{leNumber, signed};
 ghost use Rattle.values.specs.declared.datatypes.PrimitiveType.the-variants.{String};
-ghost use Rattle.sheet.specs.ReadAnswers.{Placed, contentsAt};
-ghost use Rattle.sheet.specs.Contents.{allUtf8, rowUtf8};
+ghost use Rattle.sheet.specs.code.ReadAnswers.{Placed, contentsAt};
+ghost use Rattle.sheet.specs.code.Contents.{allUtf8, rowUtf8};
 ghost use Rattle.values.specs.Outcomes.{row};
 
-// Whether the literals in the records that the first count numbers name are UTF-8.
-pub fn literals_utf8(s: &[u8], numbers: &[u16], count: usize, column: PrimitiveType) -> bool
-    requires { ⌜ Placed (layout column) (now s) (now numbers) count ⌝ }
-    ensures { λ r. ⌜ r ≡ allUtf8 (contentsAt (now (s .entry)) (now (numbers .entry)) count) ⌝ }
+// Whether the literals in the first count records are UTF-8.
+pub fn literals_utf8(s: &[u8], records: &[u16], count: usize, column: PrimitiveType) -> bool
+    requires { ⌜ Placed (layout column) (now s) (now records) count ⌝ }
+    ensures { λ r. ⌜ r ≡ allUtf8 (contentsAt (now (s .entry)) (now (records .entry)) count) ⌝ }
 {
     let mut i = 0;
     while i < count {
-        let k = numbers[i] as usize;
+        let k = records[i] as usize;
         if !is_utf8(content_of(s, k)) {
             return false;
         }
@@ -32,12 +32,12 @@ pub fn literals_utf8(s: &[u8], numbers: &[u16], count: usize, column: PrimitiveT
 }
 
 // Whether they are what the column asks for.
-pub fn literals_ok(s: &[u8], numbers: &[u16], count: usize, column: PrimitiveType) -> bool
-    requires { ⌜ Placed (layout column) (now s) (now numbers) count ⌝ }
-    ensures { λ r. ⌜ r ≡ (not (sameType column String) || allUtf8 (contentsAt (now (s .entry)) (now (numbers .entry)) count)) ⌝ }
+pub fn literals_encoded(s: &[u8], records: &[u16], count: usize, column: PrimitiveType) -> bool
+    requires { ⌜ Placed (layout column) (now s) (now records) count ⌝ }
+    ensures { λ r. ⌜ r ≡ (not (sameType column String) || allUtf8 (contentsAt (now (s .entry)) (now (records .entry)) count)) ⌝ }
 {
     if let PrimitiveType::String = column {
-        literals_utf8(s, numbers, count, column)
+        literals_utf8(s, records, count, column)
     } else {
         true
     }

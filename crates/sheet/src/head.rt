@@ -13,7 +13,7 @@ ghost use mathlib.Core.Path.{_≡_};
 ghost use Prim.Native.Nat.{_≤_};
 ghost use lib.ListN.{length};
 ghost use Rattle.sheet.specs.Records.{recordSize};
-ghost use Rattle.sheet.specs.ReadAnswers.{headIn, headResult};
+ghost use Rattle.sheet.specs.code.ReadAnswers.{headIn, headResult};
 
 pub struct Head {
     pub operator: PredicateOperator,

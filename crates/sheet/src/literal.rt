@@ -14,10 +14,10 @@ ghost use lib.ListN.{length};
 ghost use Rattle.values.specs.Types.{layout, contentSize};
 ghost use Rattle.values.specs.Words.{field};
 ghost use Rattle.sheet.specs.Records.{headerSize, recordSize, lengthIn, content, recordAt};
-ghost use Rattle.sheet.specs.ReadAnswers.{isOk, contentAt, numberAt, InLayout};
+ghost use Rattle.sheet.specs.code.ReadAnswers.{isOk, contentAt, numberAt, InLayout};
 
 // Whether record k holds a literal of the type.
-pub fn literal_ok(s: &[u8], k: usize, column: PrimitiveType) -> bool
+pub fn is_literal(s: &[u8], k: usize, column: PrimitiveType) -> bool
     requires { ⌜ recordSize * (k + 1) ≤ length (now s) ⌝ }
     ensures { λ r. ⌜ r ≡ isOk (content (layout column) (recordAt (now (s .entry)) k)) ⌝ }
 {

@@ -1,4 +1,4 @@
-// Records: their sizes, runs of zero bytes, and the lengths that a type allows.
+// Records: their sizes, how many a sheet has, runs of zero bytes, and the lengths that a type allows.
 use values::datatypes::PrimitiveType;
 use values::words::u16_at;
 use values::words::u32_at;
@@ -18,6 +18,11 @@ pub const CONTENT_SIZE: usize = 60;
 
 // The length that marks a value as missing.
 pub const MISSING_MARK: u16 = 65535;
+
+// The most literals of a sheet to be projected, and of one to be tested.
+pub const PROJECT_LIMIT: usize = 64;
+
+pub const HOLDS_LIMIT: usize = 128;
 
 // Fewer than eight bytes: four, then two, then one, with no loop.
 fn few_zeros(s: &[u8], at: usize, n: usize) -> bool

@@ -11,14 +11,9 @@ ghost use mathlib.Core.Path.{_≡_};
 ghost use Prim.Native.Nat.{_≤_};
 ghost use lib.ListN.{length};
 ghost use Rattle.values.specs.Outcomes.{ok};
-ghost use Rattle.expr.specs.Operators.{arity, takes};
+ghost use Rattle.expr.specs.Operators.{byArity, takes};
 ghost use Rattle.sheet.specs.Sheets as sheets;
-ghost use Rattle.sheet.specs.ReadAnswers.{sheetResult, LiteralsRead};
-
-// The most literals of a sheet to be projected, and of one to be tested.
-pub const PROJECT_LIMIT: usize = 64;
-
-pub const HOLDS_LIMIT: usize = 128;
+ghost use Rattle.sheet.specs.code.ReadAnswers.{sheetResult, LiteralsRead};
 
 pub struct Sheet {
     pub head: Head,
@@ -33,7 +28,7 @@ pub enum SheetResult {
 
 // Whether an operator takes so many literals.
 fn takes_count(operator: PredicateOperator, count: usize) -> bool
-    ensures { λ r. ⌜ r ≡ takes (arity operator) count ⌝ }
+    ensures { λ r. ⌜ r ≡ takes (byArity operator) count ⌝ }
 {
     if operator.is_unary() {
         return count == 0;
@@ -44,12 +39,12 @@ fn takes_count(operator: PredicateOperator, count: usize) -> bool
     count == 1
 }
 
-// A sheet with at most so many literals; the numbers of their records go into `numbers`, in the order of the chain.
-pub fn read_sheet(s: &[u8], most: usize, numbers: &mut [u16]) -> SheetResult
+// A sheet with at most so many literals; the numbers of their records go into `records`, in the order of the chain.
+pub fn read_sheet(s: &[u8], most: usize, records: &mut [u16]) -> SheetResult
     requires { ⌜ most ≤ sheets.holdsLimit ⌝ }
-    requires { ⌜ length (now numbers) ≡ sheets.holdsLimit ⌝ }
+    requires { ⌜ length (now records) ≡ sheets.holdsLimit ⌝ }
     ensures { λ r. ⌜ r ≡ sheetResult (sheets.sheet most (now (s .entry))) ⌝ }
-    ensures { λ r. ⌜ ((x : sheets.Sheet) → sheets.sheet most (now (s .entry)) ≡ ok x → LiteralsRead (now (s .entry)) (now (numbers .exit)) x) ⌝ }
+    ensures { λ r. ⌜ ((x : sheets.Sheet) → sheets.sheet most (now (s .entry)) ≡ ok x → LiteralsRead (now (s .entry)) (now (records .exit)) x) ⌝ }
 {
     let size = s.len();
     if size == 0 {
@@ -68,7 +63,7 @@ pub fn read_sheet(s: &[u8], most: usize, numbers: &mut [u16]) -> SheetResult
     };
     let column = head.column;
     let operator = head.operator;
-    let count = walk(&*s, column, 0, 0, numbers);
+    let count = walk(&*s, column, 0, 0, records);
     if count == MALFORMED_CHAIN {
         return SheetResult::Err(ErrorKind::Malformed);
     }

@@ -1,6 +1,6 @@
 // A value record: missing, or present with a content.
 use crate::literal::content_of;
-use crate::literal::literal_ok;
+use crate::literal::is_literal;
 use crate::records::CONTENT_SIZE;
 use crate::records::HEADER_SIZE;
 use crate::records::MISSING_MARK;
@@ -16,7 +16,7 @@ ghost use Prim.Native.Nat.{_≤_};
 ghost use lib.ListN.{length};
 ghost use Rattle.values.specs.Types.{layout, contentSize};
 ghost use Rattle.sheet.specs.Records.{recordSize, lengthIn, recordAt, value};
-ghost use Rattle.sheet.specs.ReadAnswers.{contentAt, valueResult};
+ghost use Rattle.sheet.specs.code.ReadAnswers.{contentAt, valueResult};
 
 // Whether a value is missing or present, or why it is none.
 pub enum ValueResult {
@@ -41,7 +41,7 @@ pub fn read_value(v: &[u8], column: PrimitiveType) -> ValueResult
         }
         return ValueResult::Err(ErrorKind::Malformed);
     }
-    if literal_ok(v, 0, column) {
+    if is_literal(v, 0, column) {
         ValueResult::Present
     } else {
         ValueResult::Err(ErrorKind::Malformed)

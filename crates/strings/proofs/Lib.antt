@@ -1,2 +1,2 @@
 -- Lemmas that several proofs of this crate share.
-pub mod BytesArms
+pub mod PrefixArms

@@ -1,2 +1,2 @@
--- The definitions of `strings`.
-pub mod Answers
+-- `strings` has no definitions of its own.
+pub mod code

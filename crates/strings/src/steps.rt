@@ -11,9 +11,9 @@ ghost use mathlib.Core.Bool.{true};
 ghost use mathlib.Core.Path.{_≡_};
 ghost use lib.ListN.{length};
 ghost use Rattle.values.specs.declared.transform.Transform.the-variants.{Truncate};
-ghost use Rattle.expr.specs.Operators.{arity, takesOne};
+ghost use Rattle.expr.specs.Operators.{byArity, takesOne};
 ghost use Rattle.projection.specs.Projection.{lengthOf};
-ghost use Rattle.strings.specs.Answers.{bytesLeaf, bytesProjected, NoLonger, OneLiteral, truncatedLeaf, startsLeaf, notStartsLeaf};
+ghost use Rattle.strings.specs.code.Prefixes.{bytesLeaf, bytesProjected, NoLonger, OneLiteral, truncatedLeaf, startsLeaf, notStartsLeaf};
 ghost use Rattle.projection.specs.declared.question.Question.the-variants.{Inclusive, Strict};
 
 // What such a leaf comes to: an operator with so many of the literal's first bytes, or none.
@@ -41,8 +41,8 @@ fn truncate_array(
     operator: PredicateOperator,
     l: &[u8],
 ) -> BytesProjection
-    requires { ⌜ takesOne (arity operator) ≡ true ⌝ }
-    ensures says { λ r. ⌜ bytesProjected (now (l .entry)) r ≡ truncatedLeaf column width (arity operator) (now (l .entry)) ⌝ }
+    requires { ⌜ takesOne (byArity operator) ≡ true ⌝ }
+    ensures says { λ r. ⌜ bytesProjected (now (l .entry)) r ≡ truncatedLeaf column width (byArity operator) (now (l .entry)) ⌝ }
     ensures short { λ r. ⌜ NoLonger (length (now (l .entry))) r ⌝ }
     ensures one { λ r. ⌜ OneLiteral r ⌝ }
 {
@@ -108,7 +108,7 @@ fn project_array(
     operator: PredicateOperator,
     l: &[u8],
 ) -> BytesProjection
-    ensures says { λ r. ⌜ bytesProjected (now (l .entry)) r ≡ bytesLeaf Inclusive column (Truncate width) (arity operator) (now (l .entry)) ⌝ }
+    ensures says { λ r. ⌜ bytesProjected (now (l .entry)) r ≡ bytesLeaf Inclusive column (Truncate width) (byArity operator) (now (l .entry)) ⌝ }
     ensures short { λ r. ⌜ NoLonger (length (now (l .entry))) r ⌝ }
     ensures one { λ r. ⌜ OneLiteral r ⌝ }
 {
@@ -147,7 +147,7 @@ fn truncate_array_strict(
     operator: PredicateOperator,
     l: &[u8],
 ) -> BytesProjection
-    ensures says { λ r. ⌜ bytesProjected (now (l .entry)) r ≡ bytesLeaf Strict column (Truncate width) (arity operator) (now (l .entry)) ⌝ }
+    ensures says { λ r. ⌜ bytesProjected (now (l .entry)) r ≡ bytesLeaf Strict column (Truncate width) (byArity operator) (now (l .entry)) ⌝ }
     ensures short { λ r. ⌜ NoLonger (length (now (l .entry))) r ⌝ }
     ensures one { λ r. ⌜ OneLiteral r ⌝ }
 {
@@ -177,7 +177,7 @@ pub fn project_bytes(
     operator: PredicateOperator,
     l: &[u8],
 ) -> BytesProjection
-    ensures says { λ r. ⌜ bytesProjected (now (l .entry)) r ≡ bytesLeaf question column (Truncate width) (arity operator) (now (l .entry)) ⌝ }
+    ensures says { λ r. ⌜ bytesProjected (now (l .entry)) r ≡ bytesLeaf question column (Truncate width) (byArity operator) (now (l .entry)) ⌝ }
     ensures short { λ r. ⌜ NoLonger (length (now (l .entry))) r ⌝ }
     ensures one { λ r. ⌜ OneLiteral r ⌝ }
 {

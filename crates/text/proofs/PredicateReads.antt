@@ -7,8 +7,8 @@ use Rattle.values.specs.Types.{layout}
 use Rattle.values.specs.declared.error.ErrorKind.{ErrorKind}
 use Rattle.expr.specs.Operators.{operatorNumber}
 use Rattle.expr.specs.Predicates.{operatorIn}
-use Rattle.sheet.specs.ReadAnswers.{contentsAt, Placed, sheetResult, LiteralsRead}
-use Rattle.sheet.specs.ResultLaws.{sheet-refused, SheetTold, sheet-told, placed-told}
+use Rattle.sheet.specs.code.ReadAnswers.{contentsAt, Placed, sheetResult, LiteralsRead}
+use Rattle.sheet.specs.laws.ResultLaws.{sheet-refused, SheetTold, sheet-told, placed-told}
 use Rattle.sheet.specs.Sheets as sheets
 use Rattle.sheet.specs.declared.sheet.Sheet.{Sheet}
 use Rattle.sheet.specs.declared.sheet.SheetResult.{SheetResult}
@@ -17,22 +17,22 @@ use Rattle.text.specs.Text.{digits, literalText, wordsRead, answerWords}
 
 -- the words of an answer by what was read: an operator, a type, and the numbers of the literals' records
 abbrev pub readWords : List ℕ → List ℕ → Sheet → List (List ℕ)
-readWords s numbers y =
-    digits (operatorNumber (y .head .operator)) ∷ map (literalText (layout (y .head .column))) (contentsAt s numbers (y .count))
+readWords s records y =
+    digits (operatorNumber (y .head .operator)) ∷ map (literalText (layout (y .head .column))) (contentsAt s records (y .count))
 
-pub record PredicateRead (s numbers : List ℕ) (y : Sheet) : Type 0 where
-  pub placed : Placed (layout (y .head .column)) s numbers (y .count)
-  pub words : answerWords s ≡ readWords s numbers y
+pub record PredicateRead (s records : List ℕ) (y : Sheet) : Type 0 where
+  pub placed : Placed (layout (y .head .column)) s records (y .count)
+  pub words : answerWords s ≡ readWords s records y
 
-told-words : {s numbers : List ℕ} {y : Sheet} → SheetTold sheets.holdsLimit s numbers y → answerWords s ≡ readWords s numbers y
-told-words {s} {numbers} t =
+told-words : {s records : List ℕ} {y : Sheet} → SheetTold sheets.holdsLimit s records y → answerWords s ≡ readWords s records y
+told-words {s} {records} t =
     ap wordsRead (t .is)
     ∙ ap (λ (ls : List (List ℕ)). digits (operatorNumber (operatorIn (t .x .leaf))) ∷ map (literalText (layout (t .x .head .column))) ls) (t .literals .literals)
-    ∙ ap (readWords s numbers) (sym (t .same))
+    ∙ ap (readWords s records) (sym (t .same))
 
 module _ (s : List ℕ) {r : SheetResult} (d : r ≡ sheetResult (sheets.sheet sheets.holdsLimit s)) where
-  pub predicate-read : {numbers : List ℕ} {y : Sheet}
-      → ((x : sheets.Sheet) → sheets.sheet sheets.holdsLimit s ≡ ok x → LiteralsRead s numbers x) → r ≡ sheet-result.Ok y → PredicateRead s numbers y
+  pub predicate-read : {records : List ℕ} {y : Sheet}
+      → ((x : sheets.Sheet) → sheets.sheet sheets.holdsLimit s ≡ ok x → LiteralsRead s records x) → r ≡ sheet-result.Ok y → PredicateRead s records y
   predicate-read literals is =
       let t = sheet-told sheets.holdsLimit s d literals is in
       record { placed = placed-told t; words = told-words t }

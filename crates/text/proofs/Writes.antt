@@ -5,7 +5,7 @@ use mathlib.Core.List.{List, [], _∷_, _++_}
 use mathlib.Core.Path.{_≡_, refl, sym, ap, _∙_}
 use lib.ListN.{length, set, length-set, length-append}
 use Rattle.values.specs.Words.{over}
-use Rattle.values.specs.WordLaws.{over-nil, over-append, over-set, length-over}
+use Rattle.values.specs.laws.WordLaws.{over-nil, over-append, over-set, length-over}
 
 -- what a text written from index `at` on leaves of a buffer, and the index after it
 pub record Wrote (at : ℕ) (text before after : List ℕ) (end : ℕ) : Type 0 where

@@ -1,3 +1,3 @@
--- The definitions of `text`, and then the laws about them.
+-- The definitions of `text`, in the order in which to read them.
 pub mod Text
-pub mod TextLaws
+pub mod laws

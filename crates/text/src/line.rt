@@ -4,7 +4,7 @@ use crate::decimal::put_digits;
 use crate::hexadecimal::put_hexadecimal;
 use sheet::literal::content_of;
 use sheet::literal::number_of;
-use sheet::sheet::HOLDS_LIMIT;
+use sheet::records::HOLDS_LIMIT;
 use sheet::sheet::SheetResult;
 use sheet::sheet::read_sheet;
 use values::datatypes::PrimitiveType;
@@ -15,7 +15,7 @@ ghost use Prim.Native.Nat.{_+_, _≤_};
 ghost use lib.ListN.{length};
 ghost use Rattle.values.specs.Types.{layout};
 ghost use Rattle.values.specs.Words.{over};
-ghost use Rattle.sheet.specs.ReadAnswers.{LiteralAt, Placed, contentAt, contentsAt};
+ghost use Rattle.sheet.specs.code.ReadAnswers.{LiteralAt, Placed, contentAt, contentsAt};
 ghost use Rattle.text.specs.Text.{space, digits, literalText, literalsText, answerWords, spaced, afterZero, answerLine, questionSize, lineSize};
 
 // Each of these writes from index `at` on and gives the index after what it wrote.
@@ -33,24 +33,24 @@ fn put_literal(d: &mut [u8], at: usize, s: &[u8], k: usize, column: PrimitiveTyp
     put_decimal(d, at, number_of(s, k, column))
 }
 
-// The literals in the records that the first count numbers name.
+// The literals in the first count records.
 fn put_literals(
     d: &mut [u8],
     at: usize,
     s: &[u8],
-    numbers: &[u16],
+    records: &[u16],
     count: usize,
     column: PrimitiveType,
 ) -> usize
-    requires { ⌜ Placed (layout column) (now s) (now numbers) count ⌝ }
-    requires { ⌜ at + length (literalsText (layout column) (contentsAt (now s) (now numbers) count)) ≤ length (now d) ⌝ }
-    ensures { λ _. ⌜ now (d .exit) ≡ over at (literalsText (layout column) (contentsAt (now (s .entry)) (now (numbers .entry)) count)) (now (d .entry)) ⌝ }
-    ensures { λ r. ⌜ r ≡ at + length (literalsText (layout column) (contentsAt (now (s .entry)) (now (numbers .entry)) count)) ⌝ }
+    requires { ⌜ Placed (layout column) (now s) (now records) count ⌝ }
+    requires { ⌜ at + length (literalsText (layout column) (contentsAt (now s) (now records) count)) ≤ length (now d) ⌝ }
+    ensures { λ _. ⌜ now (d .exit) ≡ over at (literalsText (layout column) (contentsAt (now (s .entry)) (now (records .entry)) count)) (now (d .entry)) ⌝ }
+    ensures { λ r. ⌜ r ≡ at + length (literalsText (layout column) (contentsAt (now (s .entry)) (now (records .entry)) count)) ⌝ }
 {
     let mut end = at;
     let mut i = 0;
     while i < count {
-        let k = numbers[i] as usize;
+        let k = records[i] as usize;
         d[end] = b' ';
         end = put_literal(d, end + 1, s, k, column);
         i += 1;
@@ -74,14 +74,14 @@ pub fn put_predicate(d: &mut [u8], at: usize, answer: &[u8]) -> usize
     ensures { λ _. ⌜ now (d .exit) ≡ over at (spaced (answerWords (now (answer .entry)))) (now (d .entry)) ⌝ }
     ensures { λ r. ⌜ r ≡ at + length (spaced (answerWords (now (answer .entry)))) ⌝ }
 {
-    let mut numbers = [0; HOLDS_LIMIT];
-    match read_sheet(answer, HOLDS_LIMIT, &mut numbers) {
+    let mut records = [0; HOLDS_LIMIT];
+    match read_sheet(answer, HOLDS_LIMIT, &mut records) {
         SheetResult::Ok(read) => {
             let head = read.head;
             let operator = head.operator;
             let column = head.column;
             let end = put_word(d, at, operator.number() as u64);
-            put_literals(d, end, answer, &numbers, read.count, column)
+            put_literals(d, end, answer, &records, read.count, column)
         }
         SheetResult::Err(_) => at,
     }

@@ -8,9 +8,9 @@ use native.Mathlib.Nat.{eq-or-lt-of-le}
 use lib.Dec.{T, eqb, ltb, eqb→eq}
 use borrow.Author.Tests.{lt-ltb, le-ltb}
 use Rattle.transform.specs.Count.{before, countOff}
-use Rattle.transform.specs.CountLaws.{before-suc}
+use Rattle.transform.specs.laws.CountLaws.{before-suc}
 use Rattle.transform.specs.Gregorian.{leap, yearLength, monthLength, firstDay, yearAt, monthIn}
-use Rattle.transform.specs.GregorianLaws.{firstDay-cycles, year-lies, year-only, yearLength-is, monthIn-is}
+use Rattle.transform.specs.laws.GregorianLaws.{firstDay-cycles, year-lies, year-only, yearLength-is, monthIn-is}
 
 -- ---- a test at each number below n, to be computed
 

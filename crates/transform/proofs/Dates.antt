@@ -6,13 +6,13 @@ use mathlib.Core.Bool.{Bool, true, false, cond}
 use lib.IntN.{ℤ, pos, _+ℤ_, _-ℤ_, _*ℤ_}
 use mir.Syntax.{w32}
 use mir.Val.{SFits, toZ, ofZ}
-use Rattle.values.specs.IntLaws.{ints, plus, minus, times}
-use Rattle.values.specs.SignedLaws.{back}
+use Rattle.values.specs.laws.IntLaws.{ints, plus, minus, times}
+use Rattle.values.specs.laws.SignedLaws.{back}
 use Rattle.transform.specs.Gregorian.{yearAt, monthIn}
-use Rattle.transform.specs.GregorianLaws.{monthIn-small}
+use Rattle.transform.specs.laws.GregorianLaws.{monthIn-small}
 use Rattle.transform.specs.Calendar.{inCalendar, daysBack, shift, civilYear, civilMonth, yearOf, monthOf}
-use Rattle.transform.specs.CalendarLaws.{calendar-spans, day-is, yearOf-range, monthOf-range}
-use Rattle.transform.specs.Answers.{dated, counted}
+use Rattle.transform.specs.laws.CalendarLaws.{calendar-spans, day-is, yearOf-range, monthOf-range}
+use Rattle.transform.specs.code.TransformAnswers.{dated, counted}
 use Rattle.transform.specs.declared.calendar.Civil.{Civil}
 use Rattle.transform.specs.declared.calendar.Dated.the-variants.{On, Outside}
 use Rattle.transform.specs.declared.calendar.Counted.the-variants as counted-as

@@ -8,9 +8,9 @@ use lib.IntN.{ℤ, pos, negsuc, negℤ, natAbs, _+ℤ_, _-ℤ_}
 use lib.Signed.{_≤ℤ_, _<ℤ_, quotZ, remZ, mag-rem}
 use mir.Syntax.{w64}
 use mir.Val.{SFits, ofZ}
-use Rattle.values.specs.IntLaws.{ints, plus, minus, neg}
+use Rattle.values.specs.laws.IntLaws.{ints, plus, minus, neg}
 use Rattle.transform.specs.Floor.{floorDiv, floorMod}
-use Rattle.transform.specs.FloorLaws.{rem-lt}
+use Rattle.transform.specs.laws.FloorLaws.{rem-lt}
 
 impossible : {X : Type 0} → ⊥ → X
 impossible x = absurd x

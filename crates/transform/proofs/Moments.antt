@@ -6,9 +6,9 @@ use lib.IntN.{ℤ}
 use lib.Signed.{mag}
 use mir.Syntax.{w32, w64}
 use mir.Val.{SFits, toZ, ofZ, hbits}
-use Rattle.values.specs.SignedLaws.{back, ok}
+use Rattle.values.specs.laws.SignedLaws.{back, ok}
 use Rattle.transform.specs.Floor.{floorDiv}
-use Rattle.transform.specs.FloorLaws.{floor-fits, day-fits}
+use Rattle.transform.specs.laws.FloorLaws.{floor-fits, day-fits}
 
 module _ (v : ℤ) {r : ℤ} (d : ℕ) (told : mag v < 2 ^ hbits w64) (e : r ≡ floorDiv (toZ w64 (ofZ w64 v)) d) where
   quotient : r ≡ floorDiv v d

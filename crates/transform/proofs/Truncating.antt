@@ -8,10 +8,10 @@ use lib.Signed.{_<ℤ_}
 use mir.Syntax.{w64}
 use mir.Val.{SFits}
 use Rattle.values.specs.Types.{inType}
-use Rattle.values.specs.RangeLaws.{below-range, in-long}
+use Rattle.values.specs.laws.RangeLaws.{below-range, in-long}
 use Rattle.values.specs.declared.datatypes.PrimitiveType.the-variants.{Long}
 use Rattle.transform.specs.Truncate.{truncated}
-use Rattle.transform.specs.Answers.{truncatedLong}
+use Rattle.transform.specs.code.TransformAnswers.{truncatedLong}
 use Rattle.transform.specs.declared.truncate.Truncated.the-variants.{Value, Overflow}
 
 -- the lowest number of 64 bits

@@ -3,7 +3,7 @@ ghost use mathlib.Core.Path.{_≡_};
 ghost use Prim.Native.Nat.{_<_};
 ghost use Rattle.transform.specs.Gregorian.{firstDay, yearAt, monthIn};
 ghost use Rattle.transform.specs.Calendar.{yearOf, monthOf};
-ghost use Rattle.transform.specs.Answers.{dated, counted};
+ghost use Rattle.transform.specs.code.TransformAnswers.{dated, counted};
 
 // A count of days from 1970-01-01.
 pub struct Days(pub i32);

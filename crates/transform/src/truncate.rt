@@ -4,7 +4,7 @@ use values::utf8::continues_code_point;
 ghost use mathlib.Core.Path.{_≡_};
 ghost use lib.ListN.{length};
 ghost use Rattle.transform.specs.Truncate.{firstCodePoints};
-ghost use Rattle.transform.specs.Answers.{truncatedLong};
+ghost use Rattle.transform.specs.code.TransformAnswers.{truncatedLong};
 
 // A truncated number of 64 bits, or nothing where the width is 0 or the number would fall below the lowest.
 pub enum Truncated {

@@ -8,11 +8,11 @@ use mir.Syntax.{Width}
 use mir.Val.{Fits, SFits, toZ, ofZ, bits, hbits}
 use mir.Facts.{sfits-toZ, toZ-pos, toZ-neg}
 use mir.ValLaws.{pow-bits}
-use Rattle.values.specs.IntLaws.{ints, minus}
-use Rattle.values.specs.SignedLaws.{back}
+use Rattle.values.specs.laws.IntLaws.{ints, minus}
+use Rattle.values.specs.laws.SignedLaws.{back}
 use Rattle.values.specs.Words.{signed, unsigned}
-use Rattle.values.specs.RangeLaws.{Wide}
-use Rattle.values.specs.WordLaws.{signed-toZ}
+use Rattle.values.specs.laws.RangeLaws.{Wide}
+use Rattle.values.specs.laws.WordLaws.{signed-toZ}
 
 -- bits of the upper half, as the number
 module _ {n : ℕ} {w : Width} (wide : Wide n w) (u : ℕ) (high : 2 ^ hbits w ≤ u) (f : Fits w u) where

@@ -5,8 +5,8 @@ use lib.IntN.{ℤ}
 use mir.Syntax.{w64}
 use mir.Val.{SFits, toZ, ofZ}
 use Rattle.values.specs.Types.{number, bytes, contentSize, layout, inRange, inType}
-use Rattle.values.specs.SignedLaws.{back}
-use Rattle.values.specs.RangeLaws.{in-type, eight}
+use Rattle.values.specs.laws.SignedLaws.{back}
+use Rattle.values.specs.laws.RangeLaws.{in-type, eight}
 use Rattle.values.specs.declared.datatypes.PrimitiveType.{PrimitiveType}
 
 module _ {ty kind : PrimitiveType} {z : ℤ} (is : ty ≡ kind) (f : SFits w64 z) where

@@ -1,6 +1,6 @@
 -- A refusal among the definitions is the same refusal in the code's enums: for `search`, which cannot go under a function. Assumes nothing.
 use mathlib.Core.Path.{_≡_, ap}
-use Rattle.values.specs.Answers.{typeResult, transformResult}
+use Rattle.values.specs.code.TypeResults.{typeResult, transformResult}
 use Rattle.values.specs.Outcomes.{Res, err}
 use Rattle.values.specs.declared.datatypes.PrimitiveType.{PrimitiveType}
 use Rattle.values.specs.declared.datatypes.TypeResult.the-variants as type-result

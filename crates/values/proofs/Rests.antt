@@ -9,7 +9,7 @@ use lib.ListN.{length, take, drop, getD, drop-of-length-le, take-append-drop}
 use lib.Seq.{drop-cons}
 use borrow.Author.Tests.{lt-ltb, le-ltb, eq-eqb, ne-eqb}
 use Rattle.values.specs.Order.{compareBytes, startsWith}
-use Rattle.values.specs.OrderLaws.{common-beginning}
+use Rattle.values.specs.laws.OrderLaws.{common-beginning}
 use Rattle.values.specs.declared.order.Ordering.the-variants.{Less, Equal, Greater}
 
 -- both go on

@@ -1,26 +1,11 @@
--- The definitions of `values`, in the order in which to read them, and then the laws about them.
+-- The definitions of `values`, in the order in which to read them.
 pub mod Outcomes
 pub mod Numbered
 pub mod Types
 pub mod Transforms
-pub mod Answers
 pub mod Words
 pub mod Utf8
 pub mod Order
 pub mod Ascending
-pub mod TestLaws
-pub mod AnswerLaws
-pub mod IntLaws
-pub mod SignedLaws
-pub mod RangeLaws
-pub mod TypesLaws
-pub mod WordLaws
-pub mod FieldLaws
-pub mod CodePointLaws
-pub mod Utf8Laws
-pub mod Utf8StepLaws
-pub mod OrderLaws
-pub mod PrefixLaws
-pub mod AscendingLaws
-pub mod PlaceLaws
-pub mod OutcomeLaws
+pub mod code
+pub mod laws

@@ -3,7 +3,7 @@ use crate::error::ErrorKind;
 ghost use mathlib.Core.Path.{_≡_};
 ghost use Rattle.values.specs.Numbered.{find};
 ghost use Rattle.values.specs.Types.{types, typeNumber, layout, isBytes, inRange, inType};
-ghost use Rattle.values.specs.Answers.{typeResult};
+ghost use Rattle.values.specs.code.TypeResults.{typeResult};
 
 pub enum PrimitiveType {
     Int,

@@ -2,7 +2,7 @@
 use crate::error::ErrorKind;
 ghost use mathlib.Core.Path.{_≡_};
 ghost use Rattle.values.specs.Transforms.{transformOf};
-ghost use Rattle.values.specs.Answers.{transformResult};
+ghost use Rattle.values.specs.code.TypeResults.{transformResult};
 
 pub enum Transform {
     Identity,

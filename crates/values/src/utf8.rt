@@ -6,7 +6,7 @@ ghost use mathlib.Core.List.{List, _∷_};
 ghost use Prim.Native.Nat.{ℕ, _≤_};
 ghost use lib.ListN.{length, drop};
 ghost use Rattle.values.specs.Utf8.{continues, codePoints, utf8};
-ghost use Rattle.values.specs.Answers.{awaited};
+ghost use Rattle.values.specs.code.Utf8Rests.{awaited};
 
 // Whether a byte goes on with a code point.
 pub fn continues_code_point(b: u8) -> bool

@@ -1,6 +1,3 @@
--- The definitions of `write`, and then the laws about them.
+-- The definitions of `write`, in the order in which to read them.
 pub mod Written
-pub mod RoundTripLaws
-pub mod WrittenLaws
-pub mod WriteLaws
-pub mod AnswerLaws
+pub mod laws

@@ -15,7 +15,7 @@ ghost use lib.ListN.{length, take};
 ghost use Rattle.values.specs.Ascending.{AllOf};
 ghost use Rattle.values.specs.Types.{contentSize, layout, inType};
 ghost use Rattle.values.specs.Words.{over};
-ghost use Rattle.sheet.specs.ReadAnswers.{Parts, partsAt};
+ghost use Rattle.sheet.specs.code.ReadAnswers.{Parts, partsAt};
 ghost use Rattle.sheet.specs.Records.{recordSize};
 ghost use Rattle.sheet.specs.Sheets.{holdsLimit};
 ghost use Rattle.write.specs.Written.{literalRecords, answerBytes, numberBytes};

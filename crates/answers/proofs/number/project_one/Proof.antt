@@ -4,13 +4,13 @@ use mathlib.Core.Path.{_≡_, _∙_}
 use lib.ListN.{getD}
 use denote.Ref.{now}
 use borrow.Author.Needs.{needs}
-use Rattle.values.specs.SignedLaws.{back, ok}
+use Rattle.values.specs.laws.SignedLaws.{back, ok}
 use Rattle.values.specs.Types.{layout}
-use Rattle.sheet.specs.ReadAnswers.{numberAt}
-use Rattle.answers.specs.OneLiteralLaws.{one-number, one-there}
-use Rattle.answers.specs.NumberLeafLaws.{one-itself, itself-inside, one-projected, projected-inside}
+use Rattle.sheet.specs.code.ReadAnswers.{numberAt}
+use Rattle.answers.specs.laws.OneLiteralLaws.{one-number, one-there}
+use Rattle.answers.specs.laws.NumberLeafLaws.{one-itself, itself-inside, one-projected, projected-inside}
 use Rattle.answers.proofs.NumberAnswers.{seen}
-use Rattle.answers.proofs.Transforms.{not-identity}
+use Rattle.answers.proofs.OtherTransforms.{not-identity}
 use Rattle.answers.proofs.number.project_one.Statement.{statement}
 use Rattle.answers.proofs.number.project_one.Tie as tie
 
@@ -29,7 +29,7 @@ number-of-requires c κs = let s = c .before .before .before .before in one-ther
 -- the literal that was read
 told : (c : tie.After-number-of)
     → let a = c .before .before .before .before .before .args in
-    seen (c .number-of .result) ≡ numberAt (layout (a .x .column)) (now (a .s)) (getD (now (a .numbers)) 0 0)
+    seen (c .number-of .result) ≡ numberAt (layout (a .x .column)) (now (a .s)) (getD (now (a .records)) 0 0)
 told c = back (ok _ (c .number-of .ok)) ∙ c .number-of .ensures .0
 
 put-projection-requires : tie.Need-put-projection-requires

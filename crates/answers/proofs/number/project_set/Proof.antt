@@ -5,19 +5,19 @@ use native.Mathlib.Omega.{arith}
 use mathlib.Core.Path.{_≡_, sym, _∙_}
 use denote.Ref.{now}
 use borrow.Author.Needs.{needs}
-use Rattle.sets.specs.Sets.{collected, Filled}
-use Rattle.answers.specs.NumberSetLaws.{setAt, set-refused, set-few, set-inside, set-written}
+use Rattle.sets.specs.code.Sets.{collected, Filled}
+use Rattle.answers.specs.laws.NumberSetLaws.{setAt, set-refused, set-few, set-inside, set-written}
 use Rattle.answers.proofs.number.project_set.Statement.{statement}
 use Rattle.answers.proofs.number.project_set.Tie as tie
 
 -- what was collected, lifted where that is asked for
 module _ (c : tie.After-project-set-expr) where
   told : let a = c .before .before .before .before .before .before .args in
-      collected (setAt (a .x) (now (a .s)) (now (a .numbers))) ≡ c .project-set-expr .result
+      collected (setAt (a .x) (now (a .s)) (now (a .records))) ≡ c .project-set-expr .result
   told = sym (c .project-set-expr .ensures .0 ∙ rw (c .before .before .lifts-set .ensures))
 
   filled : let a = c .before .before .before .before .before .before .args in
-      Filled (setAt (a .x) (now (a .s)) (now (a .numbers))) (c .project-set-expr .last .1 .1 .1 .1 .1 .1 .0)
+      Filled (setAt (a .x) (now (a .s)) (now (a .records))) (c .project-set-expr .last .1 .1 .1 .1 .1 .1 .0)
   filled = rw (← c .before .before .lifts-set .ensures) (c .project-set-expr .ensures .1)
 
 few : (c : tie.After-n) → c .n .given .0 .0 ≤ 128

@@ -2,9 +2,9 @@
 use native.Mathlib.Omega.{arith}
 use denote.Ref.{now}
 use borrow.Author.Needs.{needs}
-use Rattle.answers.specs.BytesLeafLaws.{one-short, one-truncated, one-identity}
-use Rattle.answers.specs.OneLiteralLaws.{one-number, one-there}
-use Rattle.answers.specs.SettledLaws.{settled-as}
+use Rattle.answers.specs.laws.BytesLeafLaws.{one-short, one-truncated, one-identity}
+use Rattle.answers.specs.laws.OneLiteralLaws.{one-number, one-there}
+use Rattle.answers.specs.laws.SettledLaws.{settled-as}
 use Rattle.answers.proofs.BytesAnswers.{other-identity}
 use Rattle.answers.proofs.string.project_one.Statement.{statement}
 use Rattle.answers.proofs.string.project_one.Tie as tie
@@ -27,7 +27,7 @@ put-projection-requires : tie.Need-put-projection-requires
 put-projection-requires c κs =
     let k = c .before .before .before .before .before in
     let s = k .before .before .before .before .before in
-    let short = one-short (s .args .x) (now (s .args .s)) (now (s .args .numbers)) (s .pre .1 .0) (s .pre .1 .1) _ (k .content-of .ensures) in
+    let short = one-short (s .args .x) (now (s .args .s)) (now (s .args .records)) (s .pre .1 .0) (s .pre .1 .1) _ (k .content-of .ensures) in
     let e = c .before .project-bytes .ensures in
     (e .1 .0, (e .1 .1, (short, s .pre .1 .0 .ready .room)))
 
@@ -35,7 +35,7 @@ put-projection-requires-2 : tie.Need-put-projection-requires-2
 put-projection-requires-2 c κs =
     let k = c .before .before in
     let s = k .before .before .before .before .before in
-    let short = one-short (s .args .x) (now (s .args .s)) (now (s .args .numbers)) (s .pre .1 .0) (s .pre .1 .1) _ (k .content-of .ensures) in
+    let short = one-short (s .args .x) (now (s .args .s)) (now (s .args .records)) (s .pre .1 .0) (s .pre .1 .1) _ (k .content-of .ensures) in
     (omega arith, (s .pre .1 .1, (short, s .pre .1 .0 .ready .room)))
 
 returns : tie.Need-returns
@@ -49,7 +49,7 @@ returns c =
     let is = p .before .before .transform .given .1 in
     let call = p .project-bytes in
     settled-as
-    (one-truncated (a .x) (now (a .s)) (now (a .numbers)) (s .pre .1 .0) (s .pre .1 .1) _ read _ (call .result) is (call .ensures .0))
+    (one-truncated (a .x) (now (a .s)) (now (a .records)) (s .pre .1 .0) (s .pre .1 .1) _ read _ (call .result) is (call .ensures .0))
     (w .put-projection .ensures)
 
 returns-2 : tie.Need-returns-2
@@ -60,7 +60,7 @@ returns-2 c =
     let a = s .args in
     let h = s .pre .1 .0 in
     let is = other-identity (a .x .column) (a .x .to) (s .pre .0) (a .x .transform) (h .result) (h .known) (w .before .before .match .keys2) in
-    settled-as (one-identity (a .x) (now (a .s)) (now (a .numbers)) h (s .pre .1 .1) _ (k .content-of .ensures) is) (w .put-projection2 .ensures)
+    settled-as (one-identity (a .x) (now (a .s)) (now (a .records)) h (s .pre .1 .1) _ (k .content-of .ensures) is) (w .put-projection2 .ensures)
 
 pub project-one-spec : {M : Type 1} → statement M
 project-one-spec =

@@ -4,8 +4,8 @@ use native.Mathlib.Omega.{arith}
 use mathlib.Core.Path.{refl, sym, ap, _∙_}
 use denote.Ref.{now}
 use borrow.Author.Needs.{needs}
-use Rattle.answers.specs.BytesLeafLaws.{setWritten, setAt, set-steps}
-use Rattle.answers.specs.SettledLaws.{settled-as, settled-refused}
+use Rattle.answers.specs.laws.BytesLeafLaws.{setWritten, setAt, set-steps}
+use Rattle.answers.specs.laws.SettledLaws.{settled-as, settled-refused}
 use Rattle.answers.proofs.BytesAnswers.{collected-refused, collected-parts, collected-few, collected-written}
 use Rattle.answers.proofs.string.project_set.Statement.{statement}
 use Rattle.answers.proofs.string.project_set.Tie as tie
@@ -27,7 +27,7 @@ few k =
     let call = k .before .before in
     let a = call .before .before .before .before .before .before .args in
     let e = call .project-set-expr .ensures in
-    collected-few (setAt (a .x) (now (a .s)) (now (a .numbers))) (e .0) _ _ _ (e .1 .0) _ (k .n .given .1) (e .1 .1 .1)
+    collected-few (setAt (a .x) (now (a .s)) (now (a .records))) (e .0) _ _ _ (e .1 .0) _ (k .n .given .1) (e .1 .1 .1)
 
 put-strings-requires : tie.Need-put-strings-requires
 put-strings-requires c κs =
@@ -36,7 +36,7 @@ put-strings-requires c κs =
     let s = call .before .before .before .before .before .before in
     let a = s .args in
     let e = call .project-set-expr .ensures in
-    let parts = collected-parts (setAt (a .x) (now (a .s)) (now (a .numbers))) (e .0) _ _ _ (e .1 .0) _ (k .n .given .1) .1 in
+    let parts = collected-parts (setAt (a .x) (now (a .s)) (now (a .records))) (e .0) _ _ _ (e .1 .0) _ (k .n .given .1) .1 in
     (parts, (few k, omega (arith, few k, s .pre .1 .0 .ready .room)))
 
 add-t24 : tie.Need-add-t24
@@ -54,8 +54,8 @@ returns c =
     let call = k .before .before in
     let s = call .before .before .before .before .before .before in
     let a = s .args in
-    let is = set-steps (a .x) (now (a .s)) (now (a .numbers)) (s .pre .0) (s .pre .1 .0) (s .pre .1 .1 .0) (s .pre .1 .1 .1) in
-    let refused = collected-refused (setAt (a .x) (now (a .s)) (now (a .numbers))) (call .project-set-expr .ensures .0) (k .e .given .1) in
+    let is = set-steps (a .x) (now (a .s)) (now (a .records)) (s .pre .0) (s .pre .1 .0) (s .pre .1 .1 .0) (s .pre .1 .1 .1) in
+    let refused = collected-refused (setAt (a .x) (now (a .s)) (now (a .records))) (call .project-set-expr .ensures .0) (k .e .given .1) in
     settled-refused (is ∙ ap (setWritten (a .x .to) (a .x .operator)) refused)
 
 returns-2 : tie.Need-returns-2
@@ -66,8 +66,8 @@ returns-2 c =
     let s = call .before .before .before .before .before .before in
     let a = s .args in
     let e = call .project-set-expr .ensures in
-    let is = set-steps (a .x) (now (a .s)) (now (a .numbers)) (s .pre .0) (s .pre .1 .0) (s .pre .1 .1 .0) (s .pre .1 .1 .1) in
-    let found = setAt (a .x) (now (a .s)) (now (a .numbers)) in
+    let is = set-steps (a .x) (now (a .s)) (now (a .records)) (s .pre .0) (s .pre .1 .0) (s .pre .1 .1 .0) (s .pre .1 .1 .1) in
+    let found = setAt (a .x) (now (a .s)) (now (a .records)) in
     settled-as is (collected-written found (e .0) _ _ _ (e .1 .0) _ (k .n .given .1) (a .x .to) (a .x .operator) (w .put-strings .ensures))
 
 pub project-set-spec : {M : Type 1} → statement M

@@ -2,7 +2,7 @@
 use mathlib.Core.Path.{ap}
 use mir.Syntax.{w64}
 use borrow.Author.Needs.{needs}
-use Rattle.values.specs.SignedLaws.{back, ok}
+use Rattle.values.specs.laws.SignedLaws.{back, ok}
 use Rattle.values.specs.Outcomes.{present}
 use Rattle.answers.proofs.value.number_row.Statement.{statement}
 use Rattle.answers.proofs.value.number_row.Tie as tie

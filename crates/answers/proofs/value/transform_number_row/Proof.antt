@@ -5,11 +5,11 @@ use denote.Ref.{now}
 use mir.Syntax.{w64}
 use mir.Val.{SFits}
 use borrow.Author.Needs.{needs}
-use Rattle.values.specs.SignedLaws.{back}
-use Rattle.partition.specs.Answers.{numberResult}
+use Rattle.values.specs.laws.SignedLaws.{back}
+use Rattle.partition.specs.code.PartitionAnswers.{numberResult}
 use Rattle.partition.specs.Partition.{numberPartition}
 use Rattle.values.specs.Outcomes.{row}
-use Rattle.answers.specs.Rows.{numberRowIn}
+use Rattle.answers.specs.code.Rows.{numberRowIn}
 use Rattle.answers.proofs.ValueAnswers.{number-length, number-lands, number-no-value, missing-number, present-number}
 use Rattle.answers.proofs.value.transform_number_row.Statement.{statement}
 use Rattle.answers.proofs.value.transform_number_row.Tie as tie

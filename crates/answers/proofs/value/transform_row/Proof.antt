@@ -4,16 +4,16 @@ use mathlib.Core.Path.{_≡_, ap}
 use denote.Ref.{now}
 use borrow.Author.Needs.{needs}
 use Rattle.values.specs.Outcomes.{ok, err, row}
-use Rattle.values.specs.TestLaws.{called-no, called-yes}
+use Rattle.values.specs.laws.TestLaws.{called-no, called-yes}
 use Rattle.values.specs.Types.{contentSize, sameType}
 use Rattle.values.specs.declared.datatypes.PrimitiveType.the-variants.{String}
 use Rattle.partition.specs.ResultType.{resultType}
 use Rattle.answers.specs.Answers.{asResult}
-use Rattle.sheet.specs.Contents.{rowUtf8}
-use Rattle.answers.specs.Leaves.{NumberColumn, BytesColumn}
-use Rattle.answers.specs.SettledLaws.{settled-refused, settled-as}
-use Rattle.answers.specs.ValueLaws.{row-not-utf8, row-no-type, row-of-numbers, row-of-bytes, row-sized}
-use Rattle.values.specs.AnswerLaws.{type-told}
+use Rattle.sheet.specs.code.Contents.{rowUtf8}
+use Rattle.answers.specs.code.Leaves.{NumberColumn, BytesColumn}
+use Rattle.answers.specs.laws.SettledLaws.{settled-refused, settled-as}
+use Rattle.answers.specs.laws.RowAnswerLaws.{row-not-utf8, row-no-type, row-of-numbers, row-of-bytes, row-sized}
+use Rattle.values.specs.laws.TypeResultLaws.{type-told}
 use Rattle.answers.proofs.Columns.{bytes-column, number-column}
 use Rattle.answers.proofs.value.transform_row.Statement.{statement}
 use Rattle.answers.proofs.value.transform_row.Tie as tie
@@ -25,7 +25,7 @@ start-of c = c .before .before .before .before .before .before .before .before
 utf8-fine : (c : tie.Else1)
     → let a = c .before .before .before .before .args in
     (not (sameType (a .column) String) || rowUtf8 (row (a .present) (now (a .content)))) ≡ true
-utf8-fine c = called-yes _ _ (c .before .value-ok .ensures) (c .if1 .left)
+utf8-fine c = called-yes _ _ (c .before .value-encoded .ensures) (c .if1 .left)
 
 -- 5 is passed
 typed : (c : tie.After-known-told2) → resultType (start-of c .args .transform) (start-of c .args .column) ≡ ok (c .before .to .given .0 .0)
@@ -41,7 +41,7 @@ numbers c = number-column (start-of (c .before .before) .args .column) (c .befor
 returns : tie.Need-returns
 returns c =
     let a = c .before .before .before .before .args in
-    let no = called-no _ _ (c .before .value-ok .ensures) (c .if1 .taken) in
+    let no = called-no _ _ (c .before .value-encoded .ensures) (c .if1 .taken) in
     settled-refused (ap asResult (row-not-utf8 (a .column) (a .transform) (row (a .present) (now (a .content))) no))
 
 returns-2 : tie.Need-returns-2

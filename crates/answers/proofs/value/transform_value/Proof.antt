@@ -3,9 +3,9 @@ use mathlib.Core.Logic.{⊎-elim}
 use denote.Ref.{now}
 use borrow.Author.Needs.{needs}
 use Rattle.sheet.specs.Records.{value}
-use Rattle.answers.specs.SettledLaws.{settled-refused, settled-as}
-use Rattle.answers.specs.ValueLaws.{value-unread, value-answered}
-use Rattle.sheet.specs.ResultLaws.{RowRead, value-refused, missing-read, present-read}
+use Rattle.answers.specs.laws.SettledLaws.{settled-refused, settled-as}
+use Rattle.answers.specs.laws.RowAnswerLaws.{value-unread, value-answered}
+use Rattle.sheet.specs.laws.ResultLaws.{RowRead, value-refused, missing-read, present-read}
 use Rattle.answers.proofs.value.transform_value.Statement.{statement}
 use Rattle.answers.proofs.value.transform_value.Tie as tie
 

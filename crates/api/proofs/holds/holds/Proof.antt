@@ -1,6 +1,6 @@
 -- `api::holds::holds` meets its contract: the sheet is read, and then the value is tested. Assumes nothing.
 use borrow.Author.Needs.{needs}
-use Rattle.sheet.specs.ResultLaws.{sheet-told, placed-told}
+use Rattle.sheet.specs.laws.ResultLaws.{sheet-told, placed-told}
 use Rattle.api.proofs.HoldsReads.{no-sheet, value-tested}
 use Rattle.api.proofs.holds.holds.Statement.{statement}
 use Rattle.api.proofs.holds.holds.Tie as tie

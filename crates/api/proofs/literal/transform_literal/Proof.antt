@@ -3,7 +3,7 @@ use denote.Ref.{now}
 use borrow.Author.Needs.{needs}
 use Rattle.values.specs.Outcomes.{ok, err}
 use Rattle.answers.specs.Answers.{asResult}
-use Rattle.values.specs.AnswerLaws.{type-told, transform-told}
+use Rattle.values.specs.laws.TypeResultLaws.{type-told, transform-told}
 use Rattle.api.specs.Routines.{transformValue, valueBuffer}
 use Rattle.api.proofs.Buffers.{too-small, settled-in}
 use Rattle.api.proofs.LiteralReads.{no-type, no-transform, value-answered}

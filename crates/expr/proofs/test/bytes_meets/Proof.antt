@@ -4,12 +4,12 @@ use mathlib.Core.Path.{_∙_}
 use mathlib.Core.List.{[], _∷_}
 use denote.Ref.{now}
 use Rattle.values.specs.Order.{compareBytes}
-use Rattle.values.specs.OrderLaws.{bytes-order}
-use Rattle.expr.specs.Answers.{asksFor, meetsOne}
+use Rattle.values.specs.laws.OrderLaws.{bytes-order}
+use Rattle.expr.specs.code.OperatorAnswers.{asksFor, meetsOne}
 use Rattle.expr.specs.Holds.{bytesTests}
-use Rattle.expr.specs.Operators.{arity}
+use Rattle.expr.specs.Operators.{byArity}
 use Rattle.expr.specs.declared.operator.PredicateOperator.the-variants.{StartsWith, NotStartsWith}
-use Rattle.expr.proofs.Arms.{but, agree}
+use Rattle.expr.proofs.OperatorArms.{but, agree}
 use Rattle.expr.proofs.test.bytes_meets.Statement.{statement}
 use Rattle.expr.proofs.test.bytes_meets.Tie as tie
 
@@ -27,8 +27,8 @@ returns-3 c =
     c .ordering-meets .ensures
     ∙ rw (c .before .compare-bytes .ensures)
     (agree
-    (λ o. asksFor (arity o) (compareBytes v l))
-    (λ o. meetsOne bytesTests (arity o) v l)
+    (λ o. asksFor (byArity o) (compareBytes v l))
+    (λ o. meetsOne bytesTests (byArity o) v l)
     (but (StartsWith ∷ NotStartsWith ∷ []))
     (a .operator)
     (c .before .before .match .keys3)

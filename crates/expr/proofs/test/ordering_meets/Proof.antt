@@ -6,18 +6,18 @@ use mathlib.Core.Path.{_≡_, refl}
 use types.Run.{OneOf}
 use Rattle.values.specs.declared.order.Ordering.{Ordering}
 use Rattle.values.specs.declared.order.Ordering.the-variants.{Less, Equal, Greater}
-use Rattle.expr.specs.Answers.{asksFor}
-use Rattle.expr.specs.Operators.{arity}
+use Rattle.expr.specs.code.OperatorAnswers.{asksFor}
+use Rattle.expr.specs.Operators.{byArity}
 use Rattle.expr.specs.declared.operator.PredicateOperator.{PredicateOperator}
 use Rattle.expr.specs.declared.operator.PredicateOperator.the-variants.{LessThan, LessThanOrEq, GreaterThan, GreaterThanOrEq, Eq, NotEq}
-use Rattle.expr.proofs.Arms.{position, but, agree}
+use Rattle.expr.proofs.OperatorArms.{position, but, agree}
 use Rattle.expr.proofs.test.ordering_meets.Statement.{statement}
 use Rattle.expr.proofs.test.ordering_meets.Tie as tie
 
 -- in `_`, where the order is known
 unasked : (order : Ordering) (os : List PredicateOperator) (o : PredicateOperator) {given : Ordering} → given ≡ order
-    → OneOf (map position os) (position o) → map (λ p. false) os ≡ map (λ p. asksFor (arity p) order) os → false ≡ asksFor (arity o) given
-unasked order os o is m none = rw is (agree (λ p. false) (λ p. asksFor (arity p) order) os o m none)
+    → OneOf (map position os) (position o) → map (λ p. false) os ≡ map (λ p. asksFor (byArity p) order) os → false ≡ asksFor (byArity o) given
+unasked order os o is m none = rw is (agree (λ p. false) (λ p. asksFor (byArity p) order) os o m none)
 
 returns-4 : tie.Need-returns-4
 returns-4 c =

@@ -13,17 +13,17 @@ use Rattle.values.specs.Order.{compareBytes, isEqual}
 use Rattle.values.specs.declared.order.Ordering.the-variants.{Less, Greater}
 use Rattle.values.proofs.Arms.{agree}
 use Rattle.values.proofs.order.Ordering.{enum}
-use Rattle.sheet.specs.ReadAnswers.{contentAt}
+use Rattle.sheet.specs.code.ReadAnswers.{contentAt}
 use Rattle.sheet.proofs.Turns.{for-member, found-here, not-here, nowhere}
 use Rattle.meets.proofs.literals.bytes_among.Statement.{statement}
 use Rattle.meets.proofs.literals.bytes_among.Tie as tie
 
 abbrev Inv-loop : tie.InvT-loop
-Inv-loop s numbers count v i₀ i =
-    (i ≤ count) × (elem compareBytes v (map (contentAt s) (slice i count numbers)) ≡ elem compareBytes v (map (contentAt s) (take count numbers)))
+Inv-loop s records count v i₀ i =
+    (i ≤ count) × (elem compareBytes v (map (contentAt s) (slice i count records)) ≡ elem compareBytes v (map (contentAt s) (take count records)))
 
 abbrev μ-loop : tie.MeasureT-loop
-μ-loop s numbers count v i₀ i = count - i
+μ-loop s records count v i₀ i = count - i
 
 cast-k : tie.Need-cast-k Inv-loop μ-loop
 cast-k c = omega (arith, c .shared-slice-known4 .given (c .before .before .loop .i))
@@ -38,7 +38,7 @@ content-of-requires c κs =
 told : (c : tie.After-compare-bytes Inv-loop μ-loop)
     → let l = c .before .before .before .before in
     let a = l .before .before .before .before .args in
-    compareBytes (a .v .now) (contentAt (a .s .now) (getD (a .numbers .now) (l .loop .i) 0)) ≡ c .compare-bytes .result
+    compareBytes (a .v .now) (contentAt (a .s .now) (getD (a .records .now) (l .loop .i) 0)) ≡ c .compare-bytes .result
 told c =
     let a = c .before .before .before .before .before .before .before .before .args in
     ap (compareBytes (a .v .now)) (sym (c .before .content-of .ensures)) ∙ sym (c .compare-bytes .ensures)
@@ -52,7 +52,7 @@ returns c =
     let a = start .args in
     found-here
     (for-member compareBytes _ _)
-    (a .numbers .now)
+    (a .records .now)
     (l .loop .i)
     (a .count)
     (l .loop .inv .1)
@@ -70,7 +70,7 @@ loop-again c =
       omega arith,
       not-here
           (for-member compareBytes _ _)
-          (a .numbers .now)
+          (a .records .now)
           (l .loop .i)
           (a .count)
           (l .loop .inv .1)
@@ -83,7 +83,7 @@ returns-2 : tie.Need-returns-2 Inv-loop μ-loop
 returns-2 c =
     let l = c .before in
     let a = l .before .before .before .before .args in
-    nowhere (for-member compareBytes _ _) (a .numbers .now) (l .loop .i) (a .count) (l .loop .inv .1) (l .loop .inv .0) (c .loop-test .left)
+    nowhere (for-member compareBytes _ _) (a .records .now) (l .loop .i) (a .count) (l .loop .inv .1) (l .loop .inv .0) (c .loop-test .left)
 
 pub bytes-among-spec : {M : Type 1} → statement M
 bytes-among-spec =

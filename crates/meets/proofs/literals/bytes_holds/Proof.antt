@@ -3,9 +3,9 @@ use native.Mathlib.Omega.{arith}
 use mathlib.Core.Path.{_∙_}
 use denote.Ref.{now}
 use Rattle.expr.specs.Holds.{bytesTests}
-use Rattle.sheet.specs.ReadAnswers.{contentAt}
+use Rattle.sheet.specs.code.ReadAnswers.{contentAt}
 use borrow.Author.Needs.{needs}
-use Rattle.meets.proofs.Arms.{arms, without-literal, with-literal}
+use Rattle.meets.proofs.HeldArms.{arms, without-literal, with-literal}
 use Rattle.meets.proofs.literals.bytes_holds.Statement.{statement}
 use Rattle.meets.proofs.literals.bytes_holds.Tie as tie
 
@@ -17,7 +17,7 @@ returns c =
     (a .x .head .operator)
     (c .before .match .keys7)
     (contentAt (now (a .s)))
-    (now (a .numbers))
+    (now (a .records))
     (a .x .count)
     (now (a .v))
     (c .if1 .taken)
@@ -41,7 +41,7 @@ returns-8 c =
     (a .x .head .operator)
     (k .match .keys7)
     (contentAt (now (a .s)))
-    (now (a .numbers))
+    (now (a .records))
     (a .x .count)
     (now (a .v))
     (c .before .before .before .if1 .left)

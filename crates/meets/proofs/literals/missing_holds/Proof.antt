@@ -3,9 +3,9 @@ use borrow.Author.Needs.{needs}
 use mathlib.Core.Bool.{false}
 use mathlib.Core.List.{[], _∷_}
 use mathlib.Core.Path.{refl}
-use Rattle.expr.specs.Operators.{arity}
+use Rattle.expr.specs.Operators.{byArity}
 use Rattle.expr.specs.declared.operator.PredicateOperator.the-variants.{IsNull}
-use Rattle.expr.proofs.Arms.{but, agree}
+use Rattle.expr.proofs.OperatorArms.{but, agree}
 use Rattle.expr.specs.Holds.{missingMeets}
 use Rattle.meets.proofs.literals.missing_holds.Statement.{statement}
 use Rattle.meets.proofs.literals.missing_holds.Tie as tie
@@ -14,7 +14,7 @@ returns : tie.Need-returns
 returns c = search needs
 
 returns-2 : tie.Need-returns-2
-returns-2 c = agree (λ o. false) (λ o. missingMeets (arity o)) (but (IsNull ∷ [])) (c .before .args .operator) (c .match .keys2) refl
+returns-2 c = agree (λ o. false) (λ o. missingMeets (byArity o)) (but (IsNull ∷ [])) (c .before .args .operator) (c .match .keys2) refl
 
 pub missing-holds-spec : {M : Type 1} → statement M
 missing-holds-spec = tie.close (tie.spec (search needs) returns returns-2)

@@ -10,22 +10,22 @@ use mir.Syntax.{w64}
 use mir.Val.{toZ}
 use borrow.Author.Needs.{needs}
 use Rattle.values.specs.Ascending.{elem}
-use Rattle.values.specs.SignedLaws.{back, ok}
+use Rattle.values.specs.laws.SignedLaws.{back, ok}
 use Rattle.values.specs.Order.{compareNumbers}
 use Rattle.values.specs.Types.{layout}
-use Rattle.sheet.specs.ReadAnswers.{numberAt}
+use Rattle.sheet.specs.code.ReadAnswers.{numberAt}
 use Rattle.sheet.proofs.Turns.{for-member, found-here, not-here, nowhere, equal-here, other-here}
 use Rattle.meets.proofs.literals.number_among.Statement.{statement}
 use Rattle.meets.proofs.literals.number_among.Tie as tie
 
 abbrev Inv-loop : tie.InvT-loop
-Inv-loop s numbers count column v i₀ i =
+Inv-loop s records count column v i₀ i =
     (i ≤ count)
-    × (elem compareNumbers (toZ w64 v) (map (numberAt (layout column) s) (slice i count numbers))
-    ≡ elem compareNumbers (toZ w64 v) (map (numberAt (layout column) s) (take count numbers)))
+    × (elem compareNumbers (toZ w64 v) (map (numberAt (layout column) s) (slice i count records))
+    ≡ elem compareNumbers (toZ w64 v) (map (numberAt (layout column) s) (take count records)))
 
 abbrev μ-loop : tie.MeasureT-loop
-μ-loop s numbers count column v i₀ i = count - i
+μ-loop s records count column v i₀ i = count - i
 
 cast-k : tie.Need-cast-k Inv-loop μ-loop
 cast-k c = omega (arith, c .shared-slice-known3 .given (c .before .before .loop .i))
@@ -44,7 +44,7 @@ returns c =
     rw (back (start .fits .v)) at
     (found-here
     (for-member compareNumbers _ _)
-    (a .numbers .now)
+    (a .records .now)
     (l .loop .i)
     (a .count)
     (l .loop .inv .1)
@@ -62,7 +62,7 @@ loop-again c =
       omega arith,
       not-here
           (for-member compareNumbers _ _)
-          (a .numbers .now)
+          (a .records .now)
           (l .loop .i)
           (a .count)
           (l .loop .inv .1)
@@ -77,7 +77,7 @@ returns-2 c =
     let start = l .before .before .before in
     let a = start .args in
     rw (back (start .fits .v)) at
-    (nowhere (for-member compareNumbers _ _) (a .numbers .now) (l .loop .i) (a .count) (l .loop .inv .1) (l .loop .inv .0) (c .loop-test .left))
+    (nowhere (for-member compareNumbers _ _) (a .records .now) (l .loop .i) (a .count) (l .loop .inv .1) (l .loop .inv .0) (c .loop-test .left))
 
 pub number-among-spec : {M : Type 1} → statement M
 number-among-spec =

@@ -4,10 +4,10 @@ use mathlib.Core.Path.{_∙_}
 use denote.Ref.{now}
 use Rattle.values.specs.Types.{layout}
 use Rattle.expr.specs.Holds.{numberTests}
-use Rattle.sheet.specs.ReadAnswers.{numberAt}
-use Rattle.values.specs.SignedLaws.{back, ok}
+use Rattle.sheet.specs.code.ReadAnswers.{numberAt}
+use Rattle.values.specs.laws.SignedLaws.{back, ok}
 use borrow.Author.Needs.{needs}
-use Rattle.meets.proofs.Arms.{arms, member, no-member, without-literal, with-literal}
+use Rattle.meets.proofs.HeldArms.{arms, member, no-member, without-literal, with-literal}
 use Rattle.meets.proofs.literals.number_holds.Statement.{statement}
 use Rattle.meets.proofs.literals.number_holds.Tie as tie
 
@@ -19,7 +19,7 @@ returns c =
     (a .x .head .operator)
     (c .before .match .keys7)
     (numberAt (layout (a .x .head .column)) (now (a .s)))
-    (now (a .numbers))
+    (now (a .records))
     (a .x .count)
     (a .v)
     (c .if1 .taken)
@@ -53,7 +53,7 @@ returns-8 c =
     (a .x .head .operator)
     (k .match .keys7)
     (numberAt (layout (a .x .head .column)) (now (a .s)))
-    (now (a .numbers))
+    (now (a .records))
     (a .x .count)
     (a .v)
     (c .before .before .before .if1 .left)

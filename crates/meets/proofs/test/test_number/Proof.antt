@@ -1,11 +1,11 @@
 -- `test::test_number` meets its contract: the answers for a present value and for a missing one. Assumes nothing.
 use mathlib.Core.Path.{ap, _∙_}
 use denote.Ref.{now}
-use Rattle.values.specs.SignedLaws as ints
+use Rattle.values.specs.laws.SignedLaws as ints
 use Rattle.values.specs.Outcomes.{ok}
-use Rattle.expr.specs.Operators.{arity}
+use Rattle.expr.specs.Operators.{byArity}
 use Rattle.meets.specs.Tested.{heldAs}
-use Rattle.meets.proofs.Rows.{number-given}
+use Rattle.meets.proofs.RowTests.{number-given}
 use borrow.Author.Needs.{needs}
 use Rattle.meets.proofs.test.test_number.Statement.{statement}
 use Rattle.meets.proofs.test.test_number.Tie as tie
@@ -21,7 +21,7 @@ returns c =
     let start = t .before .before .before .before .before in
     let a = start .args in
     let type = start .pre .1 (t .if1 .taken) in
-    let o = arity (a .x .head .operator) in
+    let o = byArity (a .x .head .operator) in
     let e = number-given (start .pre .0) o (now (a .value)) (type .is) (ints.ok _ (n .ok)) (n .ensures) (h .number-holds .ensures) in
     rw (t .if1 .taken) (c .answered .ensures ∙ ap (λ b. heldAs (ok b)) e)
 

@@ -2,14 +2,14 @@
 use mathlib.Core.Bool.{true, false}
 use mathlib.Core.Path.{_≡_, refl}
 use borrow.Author.Needs.{needs}
-use Rattle.values.specs.TestLaws.{called-no, called-yes}
+use Rattle.values.specs.laws.TestLaws.{called-no, called-yes}
 use Rattle.values.specs.Types.{layout, isBytes}
-use Rattle.values.specs.TypesLaws.{bytes-layout, number-layout}
+use Rattle.values.specs.laws.TypesLaws.{bytes-layout, number-layout}
 use Rattle.values.specs.declared.datatypes.PrimitiveType.{PrimitiveType}
 use Rattle.values.specs.declared.datatypes.PrimitiveType.the-variants.{String}
 use Rattle.values.proofs.TypeArms.{other-type}
-use Rattle.sheet.specs.RecordLaws.{number-type}
-use Rattle.meets.specs.HeldAnswers.{heldOf}
+use Rattle.sheet.specs.laws.RecordLaws.{number-type}
+use Rattle.meets.specs.code.HeldAnswers.{heldOf}
 use Rattle.meets.proofs.test.test_row.Statement.{statement}
 use Rattle.meets.proofs.test.test_row.Tie as tie
 
@@ -20,19 +20,19 @@ abbrev column-of : tie.After-is-bytes → PrimitiveType
 column-of c = start-of c .args .x .head .column
 
 -- the column's kind, as it was told
-numbers : (c : tie.Then1) → isBytes (layout (column-of (c .before))) ≡ false
-numbers c = called-no _ _ (c .before .is-bytes .ensures) (c .if1 .taken)
+records : (c : tie.Then1) → isBytes (layout (column-of (c .before))) ≡ false
+records c = called-no _ _ (c .before .is-bytes .ensures) (c .if1 .taken)
 
 bytes : (c : tie.Else1) → isBytes (layout (column-of (c .before))) ≡ true
 bytes c = called-yes _ _ (c .before .is-bytes .ensures) (c .if1 .left)
 
 test-number-requires : tie.Need-test-number-requires
-test-number-requires c κs = let start = start-of (c .before) in (start .pre .0, λ h. number-type _ _ (numbers c) (start .pre .1 h))
+test-number-requires c κs = let start = start-of (c .before) in (start .pre .0, λ h. number-type _ _ (records c) (start .pre .1 h))
 
 returns : tie.Need-returns
 unfolding heldOf
 returns c =
-    let n = number-layout (layout (column-of (c .before .before))) (numbers (c .before)) in
+    let n = number-layout (layout (column-of (c .before .before))) (records (c .before)) in
     rw (n .1) (rw (n .1) at (c .test-number .ensures))
 
 returns-2 : tie.Need-returns-2

@@ -1,5 +1,5 @@
 -- `test::test_string` meets its contract: the two tests in their order, and then the answer. Assumes nothing.
-use Rattle.values.specs.TestLaws.{called-no, called-yes}
+use Rattle.values.specs.laws.TestLaws.{called-no, called-yes}
 use borrow.Author.Needs.{needs}
 use Rattle.meets.proofs.test.test_string.Statement.{statement}
 use Rattle.meets.proofs.test.test_string.Tie as tie

@@ -3,7 +3,7 @@ use mathlib.Core.Logic.{⊎-elim}
 use denote.Ref.{now}
 use borrow.Author.Needs.{needs}
 use Rattle.sheet.specs.Records.{value}
-use Rattle.sheet.specs.ResultLaws.{RowRead, value-refused, missing-read, present-read}
+use Rattle.sheet.specs.laws.ResultLaws.{RowRead, value-refused, missing-read, present-read}
 use Rattle.meets.proofs.test.test_value.Statement.{statement}
 use Rattle.meets.proofs.test.test_value.Tie as tie
 

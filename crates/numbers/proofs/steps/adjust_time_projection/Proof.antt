@@ -3,9 +3,9 @@ use lib.IntN.{pos, _+ℤ_}
 use lib.Signed.{_<ℤ_}
 use mir.Syntax.{w64}
 use mir.Val.{SFits}
-use Rattle.values.specs.IntLaws.{ints, plus}
-use Rattle.values.specs.SignedLaws.{lit, lt-taken, lt-left}
-use Rattle.numbers.proofs.NumberArms.{lifted-most, lifted-equal, lifted-other, lifted-kept}
+use Rattle.values.specs.laws.IntLaws.{ints, plus}
+use Rattle.values.specs.laws.SignedLaws.{lit, lt-taken, lt-left}
+use Rattle.numbers.proofs.StepArms.{lifted-most, lifted-equal, lifted-other, lifted-kept}
 use borrow.Author.Needs.{needs}
 use Rattle.numbers.proofs.steps.adjust_time_projection.Statement.{statement}
 use Rattle.numbers.proofs.steps.adjust_time_projection.Tie as tie

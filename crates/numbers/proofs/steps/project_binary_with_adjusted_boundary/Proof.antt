@@ -1,5 +1,5 @@
 -- `numbers::steps::project_binary_with_adjusted_boundary` meets its contract. Assumes nothing.
-use Rattle.numbers.proofs.NumberArms.{inclusive-operator, in-one, leaves}
+use Rattle.numbers.proofs.StepArms.{inclusive-operator, in-one, leaves}
 use borrow.Author.Needs.{needs}
 use Rattle.numbers.proofs.steps.project_binary_with_adjusted_boundary.Statement.{statement}
 use Rattle.numbers.proofs.steps.project_binary_with_adjusted_boundary.Tie as tie

@@ -1,5 +1,5 @@
 -- `numbers::steps::project_boundary` meets its contract. Assumes nothing.
-use Rattle.numbers.proofs.NumberArms.{literals}
+use Rattle.numbers.proofs.StepArms.{literals}
 use borrow.Author.Needs.{needs}
 use Rattle.numbers.proofs.steps.project_boundary.Statement.{statement}
 use Rattle.numbers.proofs.steps.project_boundary.Tie as tie

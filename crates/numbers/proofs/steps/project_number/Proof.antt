@@ -1,5 +1,5 @@
 -- `numbers::steps::project_number` meets its contract. Assumes nothing.
-use Rattle.values.specs.SignedLaws.{back}
+use Rattle.values.specs.laws.SignedLaws.{back}
 use borrow.Author.Needs.{needs}
 use Rattle.numbers.proofs.steps.project_number.Statement.{statement}
 use Rattle.numbers.proofs.steps.project_number.Tie as tie

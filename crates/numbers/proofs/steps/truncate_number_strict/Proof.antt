@@ -1,5 +1,5 @@
 -- `numbers::steps::truncate_number_strict` meets its contract. Assumes nothing.
-use Rattle.numbers.proofs.NumberArms.{strict-operator, strict-leaf}
+use Rattle.numbers.proofs.StepArms.{strict-operator, strict-leaf}
 use borrow.Author.Needs.{needs}
 use Rattle.numbers.proofs.steps.truncate_number_strict.Statement.{statement}
 use Rattle.numbers.proofs.steps.truncate_number_strict.Tie as tie

@@ -2,10 +2,10 @@
 use lib.IntN.{ℤ, pos, negsuc, _-ℤ_}
 use mir.Syntax.{w64}
 use mir.Val.{SFits}
-use Rattle.values.specs.IntLaws.{ints, minus, apart}
-use Rattle.values.specs.SignedLaws.{lit, eq-taken, eq-left}
+use Rattle.values.specs.laws.IntLaws.{ints, minus, apart}
+use Rattle.values.specs.laws.SignedLaws.{lit, eq-taken, eq-left}
 use Rattle.values.specs.Types.{inType}
-use Rattle.numbers.proofs.NumberArms.{one-below}
+use Rattle.numbers.proofs.StepArms.{one-below}
 use borrow.Author.Needs.{needs}
 use Rattle.numbers.proofs.steps.try_decrement_number.Statement.{statement}
 use Rattle.numbers.proofs.steps.try_decrement_number.Tie as tie

@@ -2,10 +2,10 @@
 use lib.IntN.{ℤ, pos, _+ℤ_}
 use mir.Syntax.{w64}
 use mir.Val.{SFits}
-use Rattle.values.specs.IntLaws.{ints, plus, apart}
-use Rattle.values.specs.SignedLaws.{lit, eq-taken, eq-left}
+use Rattle.values.specs.laws.IntLaws.{ints, plus, apart}
+use Rattle.values.specs.laws.SignedLaws.{lit, eq-taken, eq-left}
 use Rattle.values.specs.Types.{inType}
-use Rattle.numbers.proofs.NumberArms.{one-above}
+use Rattle.numbers.proofs.StepArms.{one-above}
 use borrow.Author.Needs.{needs}
 use Rattle.numbers.proofs.steps.try_increment_number.Statement.{statement}
 use Rattle.numbers.proofs.steps.try_increment_number.Tie as tie

@@ -1,8 +1,8 @@
 -- `partition::number::day_number` meets its contract. Assumes nothing.
 use mir.Syntax.{w32}
 use mir.Val.{SFits}
-use Rattle.values.specs.SignedLaws.{back}
-use Rattle.values.specs.RangeLaws.{widen}
+use Rattle.values.specs.laws.SignedLaws.{back}
+use Rattle.values.specs.laws.RangeLaws.{widen}
 use Rattle.partition.proofs.NumberArms.{counts}
 use borrow.Author.Needs.{needs}
 use Rattle.partition.proofs.number.day_number.Statement.{statement}

@@ -1,5 +1,5 @@
 -- `partition::number::day_of` meets its contract. Assumes nothing.
-use Rattle.values.specs.SignedLaws.{back}
+use Rattle.values.specs.laws.SignedLaws.{back}
 use Rattle.partition.proofs.NumberArms.{date-fits, days}
 use borrow.Author.Needs.{needs}
 use Rattle.partition.proofs.number.day_of.Statement.{statement}

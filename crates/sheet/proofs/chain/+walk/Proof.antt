@@ -3,12 +3,12 @@ use borrow.Author.Needs.{needs}
 use Prim.Native.Nat.{ℕ, _-_, _<_}
 use denote.Ref.{now}
 use Rattle.values.specs.Types.{layout}
-use Rattle.sheet.specs.ReadAnswers.{recordCount}
+use Rattle.sheet.specs.code.ReadAnswers.{recordCount}
 use native.Mathlib.Nat.{add-assoc}
 use native.Mathlib.Omega.{arith}
 use mathlib.Core.Path.{_∙_}
 use lib.ListN.{length-set}
-use Rattle.sheet.specs.WalkLaws.{Next, tells, walk-goes-on}
+use Rattle.sheet.specs.laws.WalkLaws.{Next, tells, walk-goes-on}
 use Rattle.sheet.proofs.Walks.{ended, broken, gone-on}
 use borrow.Fn.Kinds.{In}
 use borrow.Fn.PlainCycle.{Measures, is, falls, and}

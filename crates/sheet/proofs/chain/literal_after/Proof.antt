@@ -2,7 +2,7 @@
 use borrow.Author.Needs.{needs}
 use native.Mathlib.Omega.{arith}
 use mathlib.Core.Path.{sym, _∙_}
-use Rattle.values.specs.TestLaws.{clash}
+use Rattle.values.specs.laws.TestLaws.{clash}
 use Rattle.sheet.proofs.Walks.{after-end, after-broken, after-literal}
 use Rattle.sheet.proofs.chain.literal_after.Statement.{statement}
 use Rattle.sheet.proofs.chain.literal_after.Tie as tie
@@ -20,8 +20,8 @@ literal-after-spec =
     (search needs)
     (λ c.
     let past = c .before .before in
-    after-literal _ _ _ _ (past .before .before .before .u16-at .ensures) (omega arith) (omega arith) (sym (c .before .literal-ok .ensures) ∙ c .if4 .taken))
+    after-literal _ _ _ _ (past .before .before .before .u16-at .ensures) (omega arith) (omega arith) (sym (c .before .is-literal .ensures) ∙ c .if4 .taken))
     (λ c.
     let past = c .before .before in
     after-broken _ _ _ _ (past .before .before .before .u16-at .ensures) (past .before .before .if1 .left)
-    (λ a b t. clash t (sym (c .before .literal-ok .ensures) ∙ c .if4 .left))))
+    (λ a b t. clash t (sym (c .before .is-literal .ensures) ∙ c .if4 .left))))

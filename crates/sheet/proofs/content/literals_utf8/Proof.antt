@@ -9,18 +9,18 @@ use lib.ListN.{take, getD}
 use lib.Seq.{slice}
 use borrow.Author.Needs.{needs}
 use Rattle.values.specs.Utf8.{utf8}
-use Rattle.sheet.specs.ReadAnswers.{contentAt}
-use Rattle.sheet.specs.Contents.{allUtf8}
+use Rattle.sheet.specs.code.ReadAnswers.{contentAt}
+use Rattle.sheet.specs.code.Contents.{allUtf8}
 use Rattle.sheet.proofs.Turns.{for-no-utf8, found-here, not-here, nowhere}
 use Rattle.sheet.proofs.content.literals_utf8.Statement.{statement}
 use Rattle.sheet.proofs.content.literals_utf8.Tie as tie
 
 abbrev Inv-loop : tie.InvT-loop
-Inv-loop s numbers count i₀ i =
-    (i ≤ count) × (allUtf8 (map (contentAt s) (slice i count numbers)) ≡ allUtf8 (map (contentAt s) (take count numbers)))
+Inv-loop s records count i₀ i =
+    (i ≤ count) × (allUtf8 (map (contentAt s) (slice i count records)) ≡ allUtf8 (map (contentAt s) (take count records)))
 
 abbrev μ-loop : tie.MeasureT-loop
-μ-loop s numbers count i₀ i = count - i
+μ-loop s records count i₀ i = count - i
 
 cast-k : tie.Need-cast-k Inv-loop μ-loop
 cast-k c = omega (arith, c .shared-slice-known3 .given (c .before .before .loop .i))
@@ -35,7 +35,7 @@ content-of-requires c κs =
 told : (c : tie.After-is-utf8 Inv-loop μ-loop)
     → let l = c .before .before .before .before in
     let a = l .before .before .before .args in
-    utf8 (contentAt (a .s .now) (getD (a .numbers .now) (l .loop .i) 0)) ≡ c .is-utf8 .result
+    utf8 (contentAt (a .s .now) (getD (a .records .now) (l .loop .i) 0)) ≡ c .is-utf8 .result
 told c = ap utf8 (sym (c .before .content-of .ensures)) ∙ sym (c .is-utf8 .ensures)
 
 returns : tie.Need-returns Inv-loop μ-loop
@@ -46,7 +46,7 @@ returns c =
     let a = start .args in
     found-here
     (for-no-utf8 _)
-    (a .numbers .now)
+    (a .records .now)
     (l .loop .i)
     (a .count)
     (l .loop .inv .1)
@@ -63,7 +63,7 @@ loop-again c =
       omega arith,
       not-here
           (for-no-utf8 _)
-          (a .numbers .now)
+          (a .records .now)
           (l .loop .i)
           (a .count)
           (l .loop .inv .1)
@@ -76,7 +76,7 @@ returns-2 : tie.Need-returns-2 Inv-loop μ-loop
 returns-2 c =
     let l = c .before in
     let a = l .before .before .before .args in
-    nowhere (for-no-utf8 _) (a .numbers .now) (l .loop .i) (a .count) (l .loop .inv .1) (l .loop .inv .0) (c .loop-test .left)
+    nowhere (for-no-utf8 _) (a .records .now) (l .loop .i) (a .count) (l .loop .inv .1) (l .loop .inv .0) (c .loop-test .left)
 
 pub literals-utf8-spec : {M : Type 1} → statement M
 literals-utf8-spec =

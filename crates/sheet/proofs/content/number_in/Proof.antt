@@ -9,10 +9,10 @@ use lib.Seq.{take-all}
 use denote.Ref.{now}
 use mir.Syntax.{w32, w64}
 use mir.Val.{SFits}
-use Rattle.values.specs.SignedLaws.{back, ok}
-use Rattle.values.specs.RangeLaws.{widen}
+use Rattle.values.specs.laws.SignedLaws.{back, ok}
+use Rattle.values.specs.laws.RangeLaws.{widen}
 use Rattle.values.specs.Words.{leNumber, word, signed}
-use Rattle.sheet.proofs.Arms.{cast-up}
+use Rattle.sheet.proofs.ColumnArms.{cast-up}
 use borrow.Author.Needs.{needs}
 use Rattle.sheet.proofs.content.number_in.Statement.{statement}
 use Rattle.sheet.proofs.content.number_in.Tie as tie

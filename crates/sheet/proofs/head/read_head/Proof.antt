@@ -5,16 +5,16 @@ use Prim.Native.Nat.{ℕ}
 use lib.ListN.{getD}
 use denote.Ref.{now}
 use borrow.Author.Needs.{needs}
-use Rattle.values.specs.Answers.{typeResult, transformResult}
+use Rattle.values.specs.code.TypeResults.{typeResult, transformResult}
 use Rattle.values.specs.Numbered.{find}
 use Rattle.values.specs.Outcomes.{Res, ok, err}
 use Rattle.values.specs.Transforms.{transformOf}
 use Rattle.values.specs.Types.{types}
-use Rattle.values.specs.WordLaws.{word-one}
+use Rattle.values.specs.laws.WordLaws.{word-one}
 use Rattle.values.specs.Words.{word}
 use Rattle.values.specs.declared.datatypes.PrimitiveType.{PrimitiveType}
 use Rattle.values.specs.declared.transform.Transform.{Transform}
-use Rattle.expr.specs.Answers.{operatorResult}
+use Rattle.expr.specs.code.OperatorAnswers.{operatorResult}
 use Rattle.expr.specs.Operators.{operators}
 use Rattle.expr.specs.declared.operator.PredicateOperator.{PredicateOperator}
 use Rattle.sheet.proofs.Heads.{operator-is, type-is, transform-is, no-operator, no-type, no-transform, not-reserved, not-rest, head-read}

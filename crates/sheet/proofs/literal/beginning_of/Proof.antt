@@ -3,7 +3,7 @@ use Prim.Native.Nat.{_+_, _-_, _*_}
 use native.Mathlib.Omega.{arith}
 use mathlib.Core.Path.{_≡_, sym}
 use denote.Ref.{now}
-use Rattle.sheet.specs.PartLaws.{in-record}
+use Rattle.sheet.specs.laws.PartLaws.{in-record}
 use borrow.Author.Needs.{needs}
 use Rattle.sheet.proofs.literal.beginning_of.Statement.{statement}
 use Rattle.sheet.proofs.literal.beginning_of.Tie as tie

@@ -3,7 +3,7 @@ use Prim.Native.Nat.{_+_, _-_, _*_}
 use native.Mathlib.Omega.{arith}
 use mathlib.Core.Path.{_≡_, _∙_}
 use denote.Ref.{now}
-use Rattle.sheet.specs.PartLaws.{length-here, content-here}
+use Rattle.sheet.specs.laws.PartLaws.{length-here, content-here}
 use borrow.Author.Needs.{needs}
 use Rattle.sheet.proofs.literal.content_of.Statement.{statement}
 use Rattle.sheet.proofs.literal.content_of.Tie as tie

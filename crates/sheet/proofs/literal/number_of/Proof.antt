@@ -1,5 +1,5 @@
 -- `literal::number_of` meets its contract: each arm reads the number of its type's layout. Assumes nothing.
-use Rattle.sheet.proofs.Arms.{cast-up, numbering}
+use Rattle.sheet.proofs.ColumnArms.{cast-up, numbering}
 use borrow.Author.Needs.{needs}
 use Rattle.sheet.proofs.literal.number_of.Statement.{statement}
 use Rattle.sheet.proofs.literal.number_of.Tie as tie

@@ -1,5 +1,5 @@
 -- `records::length_fits` meets its contract: each arm answers for its type's layout. Assumes nothing.
-use Rattle.sheet.proofs.Arms.{fits-arm}
+use Rattle.sheet.proofs.ColumnArms.{fits-arm}
 use borrow.Author.Needs.{needs}
 use Rattle.sheet.proofs.records.length_fits.Statement.{statement}
 use Rattle.sheet.proofs.records.length_fits.Tie as tie

@@ -4,7 +4,7 @@ use mathlib.Core.Path.{_≡_, sym, _∙_}
 use denote.Ref.{now}
 use borrow.Author.Needs.{needs}
 use Rattle.values.specs.Outcomes.{ok, err}
-use Rattle.sheet.specs.ReadAnswers.{headIn}
+use Rattle.sheet.specs.code.ReadAnswers.{headIn}
 use Rattle.sheet.proofs.SheetReads.{head-is, no-record, part-record, too-long, no-head, no-chain, wrong-count, sheet-read}
 use Rattle.sheet.proofs.sheet.read_sheet.Statement.{statement}
 use Rattle.sheet.proofs.sheet.read_sheet.Tie as tie

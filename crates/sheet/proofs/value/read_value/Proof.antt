@@ -1,7 +1,7 @@
 -- `value::read_value` meets its contract: a record of another size is refused whatever it says, and the rest follows the definition. Assumes nothing.
 use mathlib.Core.Path.{sym, _∙_}
 use denote.Ref.{now}
-use Rattle.sheet.proofs.Values.{Opened, wrong-size, with-next, missing-read, not-missing, present-read, not-present}
+use Rattle.sheet.proofs.ValueReads.{Opened, wrong-size, with-next, missing-read, not-missing, present-read, not-present}
 use borrow.Author.Needs.{needs}
 use Rattle.sheet.proofs.value.read_value.Statement.{statement}
 use Rattle.sheet.proofs.value.read_value.Tie as tie
@@ -37,13 +37,13 @@ returns-5 : tie.Need-returns-5
 returns-5 c =
     let n = c .before .before .before in
     present-read (n .before .before .before .before .before .args .column) (opened n) (c .before .before .if3 .left)
-    (sym (c .before .literal-ok .ensures) ∙ c .if5 .taken)
+    (sym (c .before .is-literal .ensures) ∙ c .if5 .taken)
 
 returns-6 : tie.Need-returns-6
 returns-6 c =
     let n = c .before .before .before in
     not-present (n .before .before .before .before .before .args .column) (opened n) (c .before .before .if3 .left)
-    (sym (c .before .literal-ok .ensures) ∙ c .if5 .left)
+    (sym (c .before .is-literal .ensures) ∙ c .if5 .left)
 
 pub read-value-spec : {M : Type 1} → statement M
 read-value-spec =

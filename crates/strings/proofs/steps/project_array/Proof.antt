@@ -2,11 +2,11 @@
 use mathlib.Core.List.{[], _∷_}
 use mathlib.Core.Path.{refl}
 use denote.Ref.{now}
-use Rattle.expr.proofs.Arms.{but}
+use Rattle.expr.proofs.OperatorArms.{but}
 use Rattle.expr.specs.declared.operator.PredicateOperator.the-variants.{LessThan, LessThanOrEq, GreaterThan, GreaterThanOrEq, Eq, StartsWith, NotStartsWith}
 use Rattle.projection.specs.declared.question.Question.the-variants.{Inclusive}
 use Rattle.values.specs.declared.datatypes.PrimitiveType.the-variants.{String}
-use Rattle.strings.proofs.BytesArms.{operator-arms, hands-on, beginnings, no-row}
+use Rattle.strings.proofs.PrefixArms.{operator-arms, hands-on, beginnings, no-row}
 use Rattle.values.proofs.TypeArms.{other-type}
 use borrow.Author.Needs.{needs}
 use Rattle.strings.proofs.steps.project_array.Statement.{statement}

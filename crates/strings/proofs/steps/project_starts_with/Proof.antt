@@ -1,5 +1,5 @@
 -- `strings::steps::project_starts_with` meets its contract: by the literal's length. Assumes nothing.
-use Rattle.strings.proofs.BytesArms.{by-length}
+use Rattle.strings.proofs.PrefixArms.{by-length}
 use borrow.Author.Needs.{needs}
 use Rattle.strings.proofs.steps.project_starts_with.Statement.{statement}
 use Rattle.strings.proofs.steps.project_starts_with.Tie as tie

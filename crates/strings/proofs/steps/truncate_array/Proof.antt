@@ -1,5 +1,5 @@
 -- `strings::steps::truncate_array` meets its contract. Assumes nothing.
-use Rattle.strings.proofs.BytesArms.{truncated}
+use Rattle.strings.proofs.PrefixArms.{truncated}
 use borrow.Author.Needs.{needs}
 use Rattle.strings.proofs.steps.truncate_array.Statement.{statement}
 use Rattle.strings.proofs.steps.truncate_array.Tie as tie

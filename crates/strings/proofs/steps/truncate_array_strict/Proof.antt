@@ -2,10 +2,10 @@
 use mathlib.Core.List.{[], _∷_}
 use mathlib.Core.Path.{refl}
 use denote.Ref.{now}
-use Rattle.expr.proofs.Arms.{but}
+use Rattle.expr.proofs.OperatorArms.{but}
 use Rattle.expr.specs.declared.operator.PredicateOperator.the-variants.{LessThan, LessThanOrEq, GreaterThan, GreaterThanOrEq, NotEq, StartsWith, NotStartsWith}
 use Rattle.projection.specs.declared.question.Question.the-variants.{Strict}
-use Rattle.strings.proofs.BytesArms.{operator-arms, hands-on, no-row}
+use Rattle.strings.proofs.PrefixArms.{operator-arms, hands-on, no-row}
 use borrow.Author.Needs.{needs}
 use Rattle.strings.proofs.steps.truncate_array_strict.Statement.{statement}
 use Rattle.strings.proofs.steps.truncate_array_strict.Tie as tie

@@ -8,7 +8,7 @@ use borrow.Author.Needs.{needs}
 use borrow.Fn.Kinds.{In}
 use borrow.Fn.PlainCycle.{Measures, is, falls, and}
 use Rattle.text.specs.Text.{digit, digits}
-use Rattle.text.specs.TextLaws.{digits-one, digits-more}
+use Rattle.text.specs.laws.TextLaws.{digits-one, digits-more}
 use Rattle.text.proofs.Writes.{Wrote, wrote, as-ensured, one, then, kept}
 use Rattle.text.proofs.decimal.put_digits.Reads as put-digits
 use Rattle.text.proofs.decimal.put_digits.Kinds as put-digits-kinds

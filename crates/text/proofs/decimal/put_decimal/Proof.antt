@@ -11,8 +11,8 @@ use mir.Syntax.{w64}
 use mir.Val.{toZ, ofZ}
 use mir.Facts.{sfits-lit, fits-natAbs}
 use borrow.Author.Needs.{needs}
-use Rattle.values.specs.IntLaws.{ints}
-use Rattle.values.specs.SignedLaws.{back, lt-taken, lt-left}
+use Rattle.values.specs.laws.IntLaws.{ints}
+use Rattle.values.specs.laws.SignedLaws.{back, lt-taken, lt-left}
 use Rattle.values.proofs.BitLaws.{flip-fits, flip-is}
 use Rattle.text.specs.Text.{hyphen, digits, decimal}
 use Rattle.text.proofs.Writes.{wrote, as-ensured, one, then}

@@ -5,7 +5,7 @@ use mathlib.Core.List.{List, []}
 use mathlib.Core.Path.{_≡_, refl, sym}
 use denote.Ref.{now}
 use borrow.Author.Needs.{needs}
-use Rattle.values.specs.WordLaws.{over-nil}
+use Rattle.values.specs.laws.WordLaws.{over-nil}
 use Rattle.text.specs.Text.{afterZero, answerWords}
 use Rattle.text.proofs.line.put_answer.Statement.{statement}
 use Rattle.text.proofs.line.put_answer.Tie as tie

@@ -9,7 +9,7 @@ use denote.Ref.{now}
 use borrow.Author.Needs.{needs}
 use Rattle.values.specs.Words.{over}
 use Rattle.text.specs.Text.{space, newline, digits, spaced, afterZero, answerWords, answerLine, questionSize, lineSize}
-use Rattle.text.specs.TextLaws.{line-fits}
+use Rattle.text.specs.laws.TextLaws.{line-fits}
 use Rattle.text.proofs.Writes.{Wrote, wrote, one, then, kept}
 use Rattle.text.proofs.line.put_line.Statement.{statement}
 use Rattle.text.proofs.line.put_line.Tie as tie

@@ -8,10 +8,10 @@ use mir.Val.{toZ, ofZ}
 use denote.Ref.{now}
 use borrow.Author.Needs.{needs}
 use borrow.Author.Tests.{eqb-true}
-use Rattle.values.specs.SignedLaws.{back, ok}
+use Rattle.values.specs.laws.SignedLaws.{back, ok}
 use Rattle.values.specs.Types.{Layout, number, bytes, layout, isBytes}
-use Rattle.sheet.specs.PartLaws.{number-of-content}
-use Rattle.sheet.specs.ReadAnswers.{LiteralAt, contentAt, numberAt}
+use Rattle.sheet.specs.laws.PartLaws.{number-of-content}
+use Rattle.sheet.specs.code.ReadAnswers.{LiteralAt, contentAt, numberAt}
 use Rattle.text.specs.Text.{decimal, hexadecimal, literalText}
 use Rattle.text.proofs.line.put_literal.Statement.{statement}
 use Rattle.text.proofs.line.put_literal.Tie as tie

@@ -10,42 +10,42 @@ use denote.Ref.{now}
 use borrow.Author.Needs.{needs}
 use Rattle.values.specs.Types.{layout}
 use Rattle.values.specs.declared.datatypes.PrimitiveType.{PrimitiveType}
-use Rattle.sheet.specs.ReadAnswers.{contentAt}
+use Rattle.sheet.specs.code.ReadAnswers.{contentAt}
 use Rattle.text.specs.Text.{space, literalText, literalsText}
 use Rattle.text.proofs.Writes.{wrote, as-ensured, one, then, Rest, start, room-left, go-on, done}
 use Rattle.text.proofs.line.put_literals.Statement.{statement}
 use Rattle.text.proofs.line.put_literals.Tie as tie
 
--- the literals in the records that numbers name, a space before each
+-- the literals in records, a space before each
 abbrev texts : PrimitiveType → List ℕ → List ℕ → List ℕ
-texts column s numbers = literalsText (layout column) (map (contentAt s) numbers)
+texts column s records = literalsText (layout column) (map (contentAt s) records)
 
 abbrev Inv-loop : tie.InvT-loop
-Inv-loop d₀ at s numbers count column end₀ i₀ d end i =
-    (i ≤ count) × Rest at (texts column s (take count numbers)) d₀ end (texts column s (slice i count numbers)) d
+Inv-loop d₀ at s records count column end₀ i₀ d end i =
+    (i ≤ count) × Rest at (texts column s (take count records)) d₀ end (texts column s (slice i count records)) d
 
 abbrev μ-loop : tie.MeasureT-loop
-μ-loop d₀ at s numbers count column end₀ i₀ d end i = count - i
+μ-loop d₀ at s records count column end₀ i₀ d end i = count - i
 
 -- the next literal, and those after it
 module _ (c : tie.In-loop Inv-loop μ-loop) where
   abbrev literal : List ℕ
   literal =
       let a = c .before .before .before .before .before .args in
-      space ∷ literalText (layout (a .column)) (contentAt (a .s .now) (getD (a .numbers .now) (c .before .loop .i) 0))
+      space ∷ literalText (layout (a .column)) (contentAt (a .s .now) (getD (a .records .now) (c .before .loop .i) 0))
 
   abbrev others : List ℕ
   others =
       let a = c .before .before .before .before .before .args in
-      texts (a .column) (a .s .now) (slice (c .before .loop .i + 1) (a .count) (a .numbers .now))
+      texts (a .column) (a .s .now) (slice (c .before .loop .i + 1) (a .count) (a .records .now))
 
   left : let l = c .before in
       let a = l .before .before .before .before .args in
-      Rest (a .at) (texts (a .column) (a .s .now) (take (a .count) (a .numbers .now))) (a .d .now) (l .loop .end) (literal ++ others) (l .loop .d)
+      Rest (a .at) (texts (a .column) (a .s .now) (take (a .count) (a .records .now))) (a .d .now) (l .loop .end) (literal ++ others) (l .loop .d)
   left =
       let l = c .before in
       let start = l .before .before .before .before in
-      let next = slice-cons (l .loop .i) (start .args .count) (start .args .numbers .now) 0 (c .loop-test .taken) (start .pre .0 .room) in
+      let next = slice-cons (l .loop .i) (start .args .count) (start .args .records .now) 0 (c .loop-test .taken) (start .pre .0 .room) in
       rw add-one (rw next at (l .loop .inv .1))
 
   room : c .before .loop .end + length literal ≤ length (c .before .loop .d)
@@ -75,7 +75,7 @@ returns c =
     let l = c .before in
     let a = l .before .before .before .before .args in
     let all : l .loop .i ≡ a .count = omega arith in
-    let none : slice (l .loop .i) (a .count) (a .numbers .now) ≡ [] = rw all (slice-empty (a .count) (a .numbers .now)) in
+    let none : slice (l .loop .i) (a .count) (a .records .now) ≡ [] = rw all (slice-empty (a .count) (a .records .now)) in
     as-ensured (done (rw none at (l .loop .inv .1)))
 
 pub put-literals-spec : {M : Type 1} → statement M

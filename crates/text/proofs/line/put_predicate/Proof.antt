@@ -8,9 +8,9 @@ use lib.ListN.{length, length-append}
 use denote.Ref.{now}
 use borrow.Author.Needs.{needs}
 use Rattle.values.specs.Types.{layout}
-use Rattle.values.specs.WordLaws.{over-nil}
+use Rattle.values.specs.laws.WordLaws.{over-nil}
 use Rattle.expr.specs.Operators.{operatorNumber}
-use Rattle.sheet.specs.ReadAnswers.{contentsAt}
+use Rattle.sheet.specs.code.ReadAnswers.{contentsAt}
 use Rattle.sheet.specs.declared.sheet.Sheet.{Sheet}
 use Rattle.text.specs.Text.{space, digits, literalsText, spaced, answerWords}
 use Rattle.text.proofs.PredicateReads.{PredicateRead, predicate-read, no-predicate}
@@ -23,17 +23,17 @@ abbrev operator : Sheet → List ℕ
 operator y = space ∷ digits (operatorNumber (y .head .operator))
 
 abbrev literals : List ℕ → List ℕ → Sheet → List ℕ
-literals s numbers y = literalsText (layout (y .head .column)) (contentsAt s numbers (y .count))
+literals s records y = literalsText (layout (y .head .column)) (contentsAt s records (y .count))
 
-module _ (at : ℕ) {s numbers : List ℕ} (d : List ℕ) {y : Sheet} (t : PredicateRead s numbers y)
+module _ (at : ℕ) {s records : List ℕ} (d : List ℕ) {y : Sheet} (t : PredicateRead s records y)
     (room : at + length (spaced (answerWords s)) ≤ length d) where
-  both-room : at + (length (operator y) + length (literals s numbers y)) ≤ length d
+  both-room : at + (length (operator y) + length (literals s records y)) ≤ length d
   both-room = omega (arith, rw length-append at (ap (λ (ws : List (List ℕ)). length (spaced ws)) (t .words)))
 
-  literals-room : {b : ℕ} {e : List ℕ} → Wrote at (operator y) d e b → b + length (literals s numbers y) ≤ length e
+  literals-room : {b : ℕ} {e : List ℕ} → Wrote at (operator y) d e b → b + length (literals s records y) ≤ length e
   literals-room w = omega (arith, both-room, w .ended, kept (omega (arith, both-room)) w)
 
-  both : {b c : ℕ} {e f : List ℕ} → Wrote at (operator y) d e b → Wrote b (literals s numbers y) e f c → Wrote at (spaced (answerWords s)) d f c
+  both : {b c : ℕ} {e f : List ℕ} → Wrote at (operator y) d e b → Wrote b (literals s records y) e f c → Wrote at (spaced (answerWords s)) d f c
   both v w = rw (t .words) (then (omega (arith, both-room)) v w)
 
 -- the sheet that was read

@@ -6,9 +6,9 @@ use lib.Signed.{_<ℤ_, quotZ}
 use mir.Syntax.{w64}
 use mir.Val.{SFits}
 use mir.Facts.{sfits-lit}
-use Rattle.values.specs.IntLaws.{ints, plus}
-use Rattle.values.specs.SignedLaws.{lt-taken, lt-left}
-use Rattle.transform.specs.FloorLaws.{floor-fits}
+use Rattle.values.specs.laws.IntLaws.{ints, plus}
+use Rattle.values.specs.laws.SignedLaws.{lt-taken, lt-left}
+use Rattle.transform.specs.laws.FloorLaws.{floor-fits}
 use Rattle.transform.proofs.Division.{dividing, floor-pos, floor-neg}
 use Rattle.transform.proofs.floor.floor_div.Statement.{statement}
 use Rattle.transform.proofs.floor.floor_div.Tie as tie

@@ -4,7 +4,7 @@ use lib.Signed.{_<ℤ_, remZ}
 use mir.Syntax.{w64}
 use mir.Val.{SFits}
 use mir.Facts.{sfits-lit}
-use Rattle.values.specs.SignedLaws.{back, lt-taken, lt-left}
+use Rattle.values.specs.laws.SignedLaws.{back, lt-taken, lt-left}
 use Rattle.transform.proofs.Division.{dividing, rem-fits, rem-neg, rem-pos, mod-fits}
 use Rattle.transform.proofs.floor.floor_rem.Statement.{statement}
 use Rattle.transform.proofs.floor.floor_rem.Tie as tie

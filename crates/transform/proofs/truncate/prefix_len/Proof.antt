@@ -9,7 +9,7 @@ use lib.ListN.{length, drop, drop-of-length-le}
 use borrow.Author.Needs.{needs}
 use borrow.Author.Tests.{not-true, not-false}
 use Rattle.transform.specs.Truncate.{firstCodePoints}
-use Rattle.transform.specs.StringLaws.{first-length}
+use Rattle.transform.specs.laws.StringLaws.{first-length}
 use Rattle.transform.proofs.Passed.{passed, begin, begin-none, begin-some, passed-all, passed-one}
 use Rattle.transform.proofs.truncate.prefix_len.Statement.{statement}
 use Rattle.transform.proofs.truncate.prefix_len.Tie as tie

@@ -8,8 +8,8 @@ use lib.IntN.{pos, _+ℤ_, _-ℤ_}
 use lib.Signed.{_<ℤ_}
 use mir.Syntax.{w64}
 use mir.Val.{SFits}
-use Rattle.values.specs.IntLaws.{ints, plus, minus}
-use Rattle.values.specs.SignedLaws.{back, lt-taken, lt-left}
+use Rattle.values.specs.laws.IntLaws.{ints, plus, minus}
+use Rattle.values.specs.laws.SignedLaws.{back, lt-taken, lt-left}
 use Rattle.transform.specs.Floor.{floorMod}
 use Rattle.transform.specs.Truncate.{truncated}
 use Rattle.transform.proofs.Truncating.{least, long-over, long-value}

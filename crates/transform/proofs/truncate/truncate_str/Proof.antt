@@ -4,7 +4,7 @@ use mathlib.Core.Path.{sym, ap, _∙_}
 use lib.ListN.{take}
 use lib.Seq.{length-take-le}
 use borrow.Author.Needs.{needs}
-use Rattle.transform.specs.StringLaws.{first-take, first-length}
+use Rattle.transform.specs.laws.StringLaws.{first-take, first-length}
 use Rattle.transform.proofs.truncate.truncate_str.Statement.{statement}
 use Rattle.transform.proofs.truncate.truncate_str.Tie as tie
 

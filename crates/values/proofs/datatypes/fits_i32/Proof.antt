@@ -1,8 +1,8 @@
 -- `values::datatypes::fits_i32` meets its contract: it makes the definition's two tests. Assumes nothing.
 use mathlib.Core.Path.{sym}
 use mir.Facts.{sfits-lit}
-use Rattle.values.specs.SignedLaws.{back, lt-taken, lt-left}
-use Rattle.values.specs.RangeLaws.{below-range, from-low}
+use Rattle.values.specs.laws.SignedLaws.{back, lt-taken, lt-left}
+use Rattle.values.specs.laws.RangeLaws.{below-range, from-low}
 use Rattle.values.proofs.datatypes.fits_i32.Statement.{statement}
 use Rattle.values.proofs.datatypes.fits_i32.Tie as tie
 

@@ -7,7 +7,7 @@ use mathlib.Core.Path.{_≡_, refl, sym, _∙_}
 use lib.ListN.{length, take}
 use denote.Ref.{now}
 use borrow.Author.Needs.{needs}
-use Rattle.values.specs.FieldLaws.{same-beginning}
+use Rattle.values.specs.laws.FieldLaws.{same-beginning}
 use Rattle.values.proofs.order.same_words.Statement.{statement}
 use Rattle.values.proofs.order.same_words.Tie as tie
 

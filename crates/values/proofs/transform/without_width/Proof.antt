@@ -1,8 +1,8 @@
 -- `values::transform::without_width` meets its contract: in an arm the number is known, and past all of them the list has none.
 -- Assumes nothing.
-use Rattle.values.specs.TestLaws.{picks}
+use Rattle.values.specs.laws.TestLaws.{picks}
 use Rattle.values.specs.Transforms.{transformOf}
-use Rattle.values.specs.TypesLaws.{transform-missed}
+use Rattle.values.specs.laws.TypesLaws.{transform-missed}
 use Rattle.values.proofs.Refusals.{no-transform}
 use Rattle.values.proofs.transform.without_width.Statement.{statement}
 use Rattle.values.proofs.transform.without_width.Tie as tie

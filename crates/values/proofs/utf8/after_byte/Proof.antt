@@ -1,7 +1,7 @@
 -- `after_byte` meets its contract: a law of `Utf8StepLaws` at each return. Assumes nothing.
 use mathlib.Core.Path.{sym, _∙_}
 use native.Mathlib.Omega.{arith}
-use Rattle.values.specs.Utf8StepLaws.{next-in, next-below, next-above}
+use Rattle.values.specs.laws.Utf8StepLaws.{next-in, next-below, next-above}
 use borrow.Author.Needs.{needs}
 use Rattle.values.proofs.utf8.after_byte.Statement.{statement}
 use Rattle.values.proofs.utf8.after_byte.Tie as tie

@@ -1,7 +1,7 @@
 -- `after_first` meets its contract: at each return the table `forms`, computed, says what follows the bytes that come there. Assumes nothing.
 use mathlib.Core.Path.{refl, sym, _∙_}
 use native.Mathlib.Omega.{arith}
-use Rattle.values.specs.Utf8StepLaws.{after, first-follows, first-none}
+use Rattle.values.specs.laws.Utf8StepLaws.{after, first-follows, first-none}
 use borrow.Author.Needs.{needs}
 use Rattle.values.proofs.utf8.after_first.Statement.{statement}
 use Rattle.values.proofs.utf8.after_first.Tie as tie

@@ -7,7 +7,7 @@ use borrow.Author.Tests.{not-true, not-false}
 use mathlib.Core.Bool.{Bool, cond}
 use lib.ListN.{length, drop, drop-of-length-le}
 use Rattle.values.specs.Utf8.{codePoints}
-use Rattle.values.specs.Utf8Laws.{starts, parts-most}
+use Rattle.values.specs.laws.Utf8Laws.{starts, parts-most}
 use Rattle.values.proofs.Utf8Loops.{count-first, start-one}
 use borrow.Author.Needs.{needs}
 use Rattle.values.proofs.utf8.count_code_points.Statement.{statement}

@@ -3,8 +3,8 @@ use Prim.Native.Nat.{_+_, _-_, _≤_}
 use mathlib.Core.Path.{_≡_, sym, ap, _∙_}
 use lib.ListN.{length, drop, drop-of-length-le}
 use Rattle.values.specs.Utf8.{utf8}
-use Rattle.values.specs.Answers.{awaited}
-use Rattle.values.specs.Utf8StepLaws.{await-none, await-end}
+use Rattle.values.specs.code.Utf8Rests.{awaited}
+use Rattle.values.specs.laws.Utf8StepLaws.{await-none, await-end}
 use Rattle.values.proofs.Utf8Loops.{await-one}
 use borrow.Author.Needs.{needs}
 use Rattle.values.proofs.utf8.is_utf8.Statement.{statement}

@@ -1,6 +1,6 @@
 -- `nothing` meets its contract. Assumes nothing.
 use native.Mathlib.Omega.{arith}
-use Rattle.values.specs.Utf8StepLaws.{await-none}
+use Rattle.values.specs.laws.Utf8StepLaws.{await-none}
 use Rattle.values.proofs.utf8.nothing.Statement.{statement}
 use Rattle.values.proofs.utf8.nothing.Tie as tie
 

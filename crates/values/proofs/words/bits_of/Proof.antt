@@ -6,8 +6,8 @@ use lib.Signed.{mag, _<ℤ_, _≤ℤ_, yes-nonNeg}
 use mir.Syntax.{w64}
 use mir.Val.{toZ, ofZ}
 use mir.Facts.{sfits-lit, fits-natAbs}
-use Rattle.values.specs.SignedLaws.{back, lt-taken, lt-left}
-use Rattle.values.specs.RangeLaws.{eight}
+use Rattle.values.specs.laws.SignedLaws.{back, lt-taken, lt-left}
+use Rattle.values.specs.laws.RangeLaws.{eight}
 use Rattle.values.proofs.BitLaws.{flip-fits, flip-is, negative-bits, natural-bits}
 use Rattle.values.proofs.words.bits_of.Statement.{statement}
 use Rattle.values.proofs.words.bits_of.Tie as tie

@@ -3,8 +3,8 @@ use native.Mathlib.Omega.{arith}
 use mathlib.Core.Path.{sym, ap, _∙_}
 use borrow.Author.Needs.{needs}
 use Rattle.values.specs.Words.{signed}
-use Rattle.values.specs.RangeLaws.{four}
-use Rattle.values.specs.WordLaws.{signed-toZ}
+use Rattle.values.specs.laws.RangeLaws.{four}
+use Rattle.values.specs.laws.WordLaws.{signed-toZ}
 use Rattle.values.proofs.BitLaws.{negative-fits, negative-read}
 use Rattle.values.proofs.words.i32_at.Statement.{statement}
 use Rattle.values.proofs.words.i32_at.Tie as tie

@@ -2,7 +2,7 @@
 use mir.Syntax.{w64}
 use mir.Val.{SFits}
 use borrow.Author.Needs.{needs}
-use Rattle.values.specs.SignedLaws.{back}
+use Rattle.values.specs.laws.SignedLaws.{back}
 use Rattle.values.proofs.words.i64_at.Statement.{statement}
 use Rattle.values.proofs.words.i64_at.Tie as tie
 

@@ -2,9 +2,9 @@
 use mir.Syntax.{w64}
 use mir.Facts.{sfits-widen}
 use borrow.Author.Needs.{needs}
-use Rattle.values.specs.SignedLaws.{back}
-use Rattle.values.specs.RangeLaws.{range-fits, four}
-use Rattle.values.specs.WordLaws.{unsigned-low}
+use Rattle.values.specs.laws.SignedLaws.{back}
+use Rattle.values.specs.laws.RangeLaws.{range-fits, four}
+use Rattle.values.specs.laws.WordLaws.{unsigned-low}
 use Rattle.values.proofs.words.put_i32.Statement.{statement}
 use Rattle.values.proofs.words.put_i32.Tie as tie
 

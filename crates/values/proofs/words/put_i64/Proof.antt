@@ -1,6 +1,6 @@
 -- `words::put_i64` meets its contract. Assumes nothing.
 use borrow.Author.Needs.{needs}
-use Rattle.values.specs.SignedLaws.{back}
+use Rattle.values.specs.laws.SignedLaws.{back}
 use Rattle.values.proofs.words.put_i64.Statement.{statement}
 use Rattle.values.proofs.words.put_i64.Tie as tie
 

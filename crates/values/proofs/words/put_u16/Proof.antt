@@ -7,7 +7,7 @@ use mathlib.Core.Path.{_≡_, sym}
 use lib.ListN.{length-set}
 use denote.Ref.{now}
 use borrow.Author.Needs.{needs}
-use Rattle.values.specs.WordLaws.{over-sets}
+use Rattle.values.specs.laws.WordLaws.{over-sets}
 use Rattle.values.proofs.words.put_u16.Statement.{statement}
 use Rattle.values.proofs.words.put_u16.Tie as tie
 

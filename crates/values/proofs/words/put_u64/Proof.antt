@@ -2,7 +2,7 @@
 use native.Mathlib.Omega.{arith}
 use denote.Ref.{now}
 use borrow.Author.Needs.{needs}
-use Rattle.values.specs.WordLaws.{over-split}
+use Rattle.values.specs.laws.WordLaws.{over-split}
 use Rattle.values.proofs.words.put_u64.Statement.{statement}
 use Rattle.values.proofs.words.put_u64.Tie as tie
 

@@ -1,7 +1,7 @@
 -- `words::signed_of` meets its contract. Assumes nothing.
 use native.Mathlib.Omega.{arith}
 use borrow.Author.Needs.{needs}
-use Rattle.values.specs.RangeLaws.{eight}
+use Rattle.values.specs.laws.RangeLaws.{eight}
 use Rattle.values.proofs.BitLaws.{negative-fits, negative-read}
 use Rattle.values.proofs.words.signed_of.Statement.{statement}
 use Rattle.values.proofs.words.signed_of.Tie as tie

@@ -4,7 +4,7 @@ use native.Mathlib.Omega.{arith}
 use lib.ListN.{getD}
 use denote.Ref.{now}
 use borrow.Author.Needs.{needs}
-use Rattle.values.specs.WordLaws.{word-split, word-one}
+use Rattle.values.specs.laws.WordLaws.{word-split, word-one}
 use Rattle.values.proofs.words.u16_at.Statement.{statement}
 use Rattle.values.proofs.words.u16_at.Tie as tie
 

@@ -2,7 +2,7 @@
 use native.Mathlib.Omega.{arith}
 use denote.Ref.{now}
 use borrow.Author.Needs.{needs}
-use Rattle.values.specs.WordLaws.{word-split}
+use Rattle.values.specs.laws.WordLaws.{word-split}
 use Rattle.values.proofs.words.u32_at.Statement.{statement}
 use Rattle.values.proofs.words.u32_at.Tie as tie
 

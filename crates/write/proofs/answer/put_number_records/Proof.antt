@@ -13,14 +13,14 @@ use mir.Val.{toZ, ofZ}
 use denote.Ref.{now}
 use borrow.Author.Needs.{needs}
 use Rattle.values.specs.Ascending.{AllOf}
-use Rattle.values.specs.SignedLaws.{back}
-use Rattle.values.specs.RangeLaws.{in-type-long}
+use Rattle.values.specs.laws.SignedLaws.{back}
+use Rattle.values.specs.laws.RangeLaws.{in-type-long}
 use Rattle.values.specs.Types.{layout, inType}
 use Rattle.values.specs.Words.{over}
 use Rattle.values.specs.declared.datatypes.PrimitiveType.{PrimitiveType}
 use Rattle.sheet.specs.Records.{recordSize}
-use Rattle.write.specs.AnswerLaws.{turn, no-more, all-at}
-use Rattle.write.specs.WriteLaws.{length-number}
+use Rattle.write.specs.laws.AnswerSheetLaws.{turn, no-more, all-at}
+use Rattle.write.specs.laws.WriteLaws.{length-number}
 use Rattle.write.specs.Written.{literalRecords, numberBytes}
 use Rattle.write.proofs.answer.put_number_records.Statement.{statement}
 use Rattle.write.proofs.answer.put_number_records.Tie as tie

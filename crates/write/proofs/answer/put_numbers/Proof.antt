@@ -7,7 +7,7 @@ use lib.ListN.{take}
 use denote.Ref.{now}
 use borrow.Author.Needs.{needs}
 use Rattle.values.specs.Types.{layout}
-use Rattle.write.specs.AnswerLaws.{head-then, next-left}
+use Rattle.write.specs.laws.AnswerSheetLaws.{head-then, next-left}
 use Rattle.write.specs.Written.{numberBytes}
 use Rattle.write.proofs.answer.put_numbers.Statement.{statement}
 use Rattle.write.proofs.answer.put_numbers.Tie as tie

@@ -4,9 +4,9 @@ use mathlib.Core.List.{[], _∷_}
 use mathlib.Core.Path.{refl}
 use denote.Ref.{now}
 use borrow.Author.Needs.{needs}
-use Rattle.values.specs.SignedLaws.{back}
+use Rattle.values.specs.laws.SignedLaws.{back}
 use Rattle.values.specs.Types.{layout}
-use Rattle.write.specs.AnswerLaws.{head-then, last-literal}
+use Rattle.write.specs.laws.AnswerSheetLaws.{head-then, last-literal}
 use Rattle.write.specs.Written.{numberBytes}
 use Rattle.write.proofs.answer.put_one_number.Statement.{statement}
 use Rattle.write.proofs.answer.put_one_number.Tie as tie

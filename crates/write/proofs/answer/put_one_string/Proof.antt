@@ -4,7 +4,7 @@ use mathlib.Core.List.{[], _∷_}
 use mathlib.Core.Path.{refl}
 use denote.Ref.{now}
 use borrow.Author.Needs.{needs}
-use Rattle.write.specs.AnswerLaws.{head-then, last-literal}
+use Rattle.write.specs.laws.AnswerSheetLaws.{head-then, last-literal}
 use Rattle.write.proofs.answer.put_one_string.Statement.{statement}
 use Rattle.write.proofs.answer.put_one_string.Tie as tie
 

@@ -9,9 +9,9 @@ use lib.Seq.{slice}
 use denote.Ref.{now}
 use borrow.Author.Needs.{needs}
 use Rattle.values.specs.Words.{over}
-use Rattle.sheet.specs.ReadAnswers.{partAt, PartAt}
+use Rattle.sheet.specs.code.ReadAnswers.{partAt, PartAt}
 use Rattle.sheet.specs.Records.{recordSize}
-use Rattle.write.specs.AnswerLaws.{turn, no-more, length-part}
+use Rattle.write.specs.laws.AnswerSheetLaws.{turn, no-more, length-part}
 use Rattle.write.specs.Written.{literalRecords}
 use Rattle.write.proofs.answer.put_string_records.Statement.{statement}
 use Rattle.write.proofs.answer.put_string_records.Tie as tie

@@ -3,8 +3,8 @@ use native.Mathlib.Omega.{arith}
 use mathlib.Core.Path.{_∙_}
 use denote.Ref.{now}
 use borrow.Author.Needs.{needs}
-use Rattle.sheet.specs.ReadAnswers.{partAt, partsAt}
-use Rattle.write.specs.AnswerLaws.{head-then, next-left}
+use Rattle.sheet.specs.code.ReadAnswers.{partAt, partsAt}
+use Rattle.write.specs.laws.AnswerSheetLaws.{head-then, next-left}
 use Rattle.write.proofs.answer.put_strings.Statement.{statement}
 use Rattle.write.proofs.answer.put_strings.Tie as tie
 

@@ -4,10 +4,10 @@ use mathlib.Core.List.{[], _∷_}
 use mathlib.Core.Path.{refl}
 use denote.Ref.{now}
 use borrow.Author.Needs.{needs}
-use Rattle.values.specs.SignedLaws.{back}
+use Rattle.values.specs.laws.SignedLaws.{back}
 use Rattle.values.specs.Types.{layout}
-use Rattle.write.specs.AnswerLaws.{head-then, literal-then, last-literal}
-use Rattle.write.specs.WriteLaws.{length-number}
+use Rattle.write.specs.laws.AnswerSheetLaws.{head-then, literal-then, last-literal}
+use Rattle.write.specs.laws.WriteLaws.{length-number}
 use Rattle.write.specs.Written.{numberBytes}
 use Rattle.write.proofs.answer.put_two_numbers.Statement.{statement}
 use Rattle.write.proofs.answer.put_two_numbers.Tie as tie

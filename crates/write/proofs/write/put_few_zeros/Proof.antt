@@ -9,7 +9,7 @@ use lib.Seq.{sets}
 use denote.Ref.{now}
 use borrow.Author.Needs.{needs}
 use Rattle.values.specs.Words.{over}
-use Rattle.values.specs.WordLaws.{over-sets}
+use Rattle.values.specs.laws.WordLaws.{over-sets}
 use Rattle.write.proofs.write.put_few_zeros.Statement.{statement}
 use Rattle.write.proofs.write.put_few_zeros.Tie as tie
 

@@ -8,10 +8,10 @@ use denote.Ref.{now}
 use borrow.Author.Needs.{needs}
 use Rattle.values.specs.Types.{typeNumber}
 use Rattle.values.specs.Words.{leBytes, over}
-use Rattle.values.specs.WordLaws.{over-set}
+use Rattle.values.specs.laws.WordLaws.{over-set}
 use Rattle.expr.specs.Operators.{operatorNumber}
 use Rattle.sheet.specs.Records.{recordSize}
-use Rattle.write.specs.WriteLaws.{three-writes}
+use Rattle.write.specs.laws.WriteLaws.{three-writes}
 use Rattle.write.proofs.write.put_head.Statement.{statement}
 use Rattle.write.proofs.write.put_head.Tie as tie
 

@@ -4,7 +4,7 @@ use mathlib.Core.Path.{refl}
 use denote.Ref.{now}
 use borrow.Author.Needs.{needs}
 use Rattle.values.specs.Words.{leBytes}
-use Rattle.write.specs.WriteLaws.{two-writes}
+use Rattle.write.specs.laws.WriteLaws.{two-writes}
 use Rattle.write.proofs.write.put_header.Statement.{statement}
 use Rattle.write.proofs.write.put_header.Tie as tie
 

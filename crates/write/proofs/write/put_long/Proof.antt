@@ -3,10 +3,10 @@ use Prim.Native.Nat.{_*_}
 use native.Mathlib.Omega.{arith}
 use denote.Ref.{now}
 use borrow.Author.Needs.{needs}
-use Rattle.values.specs.SignedLaws.{back}
+use Rattle.values.specs.laws.SignedLaws.{back}
 use Rattle.values.specs.Words.{signedBytes}
 use Rattle.sheet.specs.Records.{recordSize}
-use Rattle.write.specs.WriteLaws.{literal-writes}
+use Rattle.write.specs.laws.WriteLaws.{literal-writes}
 use Rattle.write.proofs.write.put_long.Statement.{statement}
 use Rattle.write.proofs.write.put_long.Tie as tie
 

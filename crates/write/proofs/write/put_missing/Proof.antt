@@ -8,7 +8,7 @@ use borrow.Author.Needs.{needs}
 use Rattle.values.specs.Types.{contentSize}
 use Rattle.values.specs.Words.{leBytes}
 use Rattle.sheet.specs.Records.{missingMark}
-use Rattle.write.specs.WriteLaws.{two-writes}
+use Rattle.write.specs.laws.WriteLaws.{two-writes}
 use Rattle.write.proofs.write.put_missing.Statement.{statement}
 use Rattle.write.proofs.write.put_missing.Tie as tie
 

@@ -9,8 +9,8 @@ use mir.Val.{SFits, toZ, ofZ}
 use types.Run.{OneOf, miss}
 use denote.Enum.Declared.{tagOf}
 use borrow.Author.Needs.{needs}
-use Rattle.values.specs.SignedLaws.{back}
-use Rattle.values.specs.RangeLaws.{in-type, in-type-long, four}
+use Rattle.values.specs.laws.SignedLaws.{back}
+use Rattle.values.specs.laws.RangeLaws.{in-type, in-type-long, four}
 use Rattle.values.specs.Types.{number, layout, inType}
 use Rattle.values.proofs.datatypes.PrimitiveType.{the-type}
 use Rattle.values.specs.declared.datatypes.PrimitiveType.{PrimitiveType}

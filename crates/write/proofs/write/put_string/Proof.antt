@@ -4,7 +4,7 @@ use native.Mathlib.Omega.{arith}
 use denote.Ref.{now}
 use borrow.Author.Needs.{needs}
 use Rattle.sheet.specs.Records.{recordSize}
-use Rattle.write.specs.WriteLaws.{literal-writes}
+use Rattle.write.specs.laws.WriteLaws.{literal-writes}
 use Rattle.write.proofs.write.put_string.Statement.{statement}
 use Rattle.write.proofs.write.put_string.Tie as tie
 

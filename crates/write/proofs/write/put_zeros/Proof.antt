@@ -7,7 +7,7 @@ use mathlib.Core.Path.{_≡_, refl, sym, _∙_}
 use lib.ListN.{length, replicate, length-replicate, replicate-append-replicate}
 use borrow.Author.Needs.{needs}
 use Rattle.values.specs.Words.{over}
-use Rattle.write.specs.WriteLaws.{two-writes}
+use Rattle.write.specs.laws.WriteLaws.{two-writes}
 use Rattle.write.proofs.write.put_zeros.Statement.{statement}
 use Rattle.write.proofs.write.put_zeros.Tie as tie
 

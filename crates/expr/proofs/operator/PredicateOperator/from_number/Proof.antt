@@ -2,9 +2,9 @@
 -- Assumes nothing.
 use mathlib.Core.Path.{_≡_, ap}
 use Rattle.values.specs.Outcomes.{Res, err}
-use Rattle.values.specs.TestLaws.{picks}
+use Rattle.values.specs.laws.TestLaws.{picks}
 use Rattle.values.specs.declared.error.ErrorKind.{ErrorKind}
-use Rattle.expr.specs.Answers.{operatorResult}
+use Rattle.expr.specs.code.OperatorAnswers.{operatorResult}
 use Rattle.expr.specs.declared.operator.OperatorResult.the-variants.{Err}
 use Rattle.expr.specs.declared.operator.PredicateOperator.{PredicateOperator}
 use Rattle.expr.proofs.operator.PredicateOperator.from_number.Statement.{statement}

@@ -6,12 +6,12 @@ use mathlib.Core.Bool.{true}
 use lib.IntN.{ℤ, natAbs}
 use mir.Syntax.{w32}
 use mir.Val.{SFits}
-use Rattle.values.specs.IntLaws.{ints}
-use Rattle.values.specs.SignedLaws.{lit, lt-taken, lt-left}
+use Rattle.values.specs.laws.IntLaws.{ints}
+use Rattle.values.specs.laws.SignedLaws.{lit, lt-taken, lt-left}
 use Rattle.transform.specs.Gregorian.{yearAt, monthIn}
-use Rattle.transform.specs.GregorianLaws.{monthIn-small}
+use Rattle.transform.specs.laws.GregorianLaws.{monthIn-small}
 use Rattle.transform.specs.Calendar.{firstCalendarDay, lastCalendarDay, inCalendar, daysBack, shift}
-use Rattle.transform.specs.CalendarLaws.{calendar-within, calendar-before, calendar-after}
+use Rattle.transform.specs.laws.CalendarLaws.{calendar-within, calendar-before, calendar-after}
 use Rattle.transform.proofs.Dates.{index-small, sum-fits, index-is, year-fits, civil-fits, dated-is}
 use Rattle.transform.proofs.calendar.Days.civil.Statement.{statement}
 use Rattle.transform.proofs.calendar.Days.civil.Tie as tie

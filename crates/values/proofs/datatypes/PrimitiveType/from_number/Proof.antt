@@ -1,6 +1,6 @@
 -- `values::datatypes::PrimitiveType::from_number` meets its contract: in an arm the number is known, and past all of them the list has
 -- none. Assumes nothing.
-use Rattle.values.specs.TestLaws.{picks}
+use Rattle.values.specs.laws.TestLaws.{picks}
 use Rattle.values.proofs.Refusals.{no-type}
 use Rattle.values.proofs.datatypes.PrimitiveType.from_number.Statement.{statement}
 use Rattle.values.proofs.datatypes.PrimitiveType.from_number.Tie as tie

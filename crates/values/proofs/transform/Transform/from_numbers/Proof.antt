@@ -1,6 +1,6 @@
 -- `values::transform::Transform::from_numbers` meets its contract. Assumes nothing.
 use borrow.Author.Needs.{needs}
-use Rattle.values.specs.TypesLaws.{transform-found, width-refused}
+use Rattle.values.specs.laws.TypesLaws.{transform-found, width-refused}
 use Rattle.values.specs.declared.transform.Transform.the-variants.{Truncate}
 use Rattle.values.proofs.Refusals.{no-transform}
 use Rattle.values.proofs.transform.Transform.from_numbers.Statement.{statement}

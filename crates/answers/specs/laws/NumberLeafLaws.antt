@@ -1,0 +1,160 @@
+-- A leaf with one number: the number is of the column's type, what it comes to is of the result type, and the bytes that are written are its answer
+-- sheet. Assumes nothing.
+use Prim.Native.Nat.{ℕ, suc, _*_}
+use mathlib.Core.Bool.{true, false, false≢true}
+use mathlib.Core.List.{List, [], _∷_, map}
+use mathlib.Core.Path.{_≡_, refl, sym, ap, subst, _∙_}
+use lib.IntN.{ℤ, sucℤ}
+use lib.ListN.{length, getD, length-map}
+use borrow.Author.Tests.{eq-eqb}
+use Rattle.values.specs.Ascending.{AllOf}
+use Rattle.values.specs.Order.{compareNumbers}
+use Rattle.values.specs.laws.OutcomeLaws.{ok-inj}
+use Rattle.values.specs.Outcomes.{ok, _>>=_}
+use Rattle.values.specs.Types.{Layout, number, bytes, layout, fits, inLayout, inType}
+use Rattle.values.specs.laws.TypesLaws.{Sized, sized}
+use Rattle.values.specs.laws.WordLaws.{signed-in-range, length-bytes}
+use Rattle.values.specs.Words.{over, unsigned}
+use Rattle.values.specs.declared.datatypes.PrimitiveType.{PrimitiveType}
+use Rattle.values.specs.declared.transform.Transform.{Transform}
+use Rattle.values.specs.declared.transform.Transform.the-variants.{Identity}
+use Rattle.partition.specs.ResultType.{resultType}
+use Rattle.expr.specs.Operators.{Binary as BinaryOperator, one, isIn, byArity, takesOne}
+use Rattle.expr.specs.Predicates.{Test, Predicate, test, binary, set, operatorIn, literalsIn}
+use Rattle.projection.specs.code.OneLiteral.{oneTest}
+use Rattle.numbers.specs.code.Boundaries.{numberLeaf, OneIn, numberProjected}
+use Rattle.projection.specs.laws.LandingLaws.{numbers-land}
+use Rattle.projection.specs.Projection.{byTransform, numberStep, projectNumbers}
+use Rattle.projection.specs.Steps.{some, mapped}
+use Rattle.numbers.specs.declared.steps.NumberProjection.{NumberProjection}
+use Rattle.numbers.specs.declared.steps.NumberProjection.the-variants as number-projection
+use Rattle.sheet.specs.code.ReadAnswers.{numberAt}
+use Rattle.sheet.specs.Records.{recordSize}
+use Rattle.sheet.specs.laws.SheetLaws.{Fits}
+use Rattle.write.specs.Written.{answerBytes, answerSheet, numberBytes}
+use Rattle.write.specs.laws.WrittenLaws.{length-answer}
+use Rattle.answers.specs.code.Settled.{Settled}
+use Rattle.sheet.specs.Values.{mapLiterals}
+use Rattle.answers.specs.laws.LeafLaws.{after-checks}
+use Rattle.answers.specs.code.Leaves.{numbersWritten, numberSteps, numberLeafAt, oneWritten, NumbersIn, isIdentity, ReadyLeaf, NumberColumn}
+use Rattle.answers.specs.laws.OneLiteralLaws.{takes-one, one-literal}
+use Rattle.sheet.specs.laws.ReadLaws.{map-operator, map-literals}
+use Rattle.answers.specs.laws.StepsLaws.{steps-through}
+use Rattle.answers.specs.declared.answer.Answer.the-variants.{Written}
+use Rattle.answers.specs.declared.leaf.Leaf.{Leaf}
+
+-- ---- numbers of a type as bytes
+
+number-fits : (l : Layout) (z : ℤ) → inLayout l z ≡ true → fits l (length (numberBytes l z)) ≡ true
+number-fits (number n) z h = eq-eqb _ n (length-bytes n (unsigned n z))
+number-fits (bytes n) z h = absurd (false≢true h)
+
+numbers-fit : (to : PrimitiveType) (zs : List ℤ) → AllOf (λ z. inType to z ≡ true) zs → Fits to (map (λ z. numberBytes (layout to) z) zs)
+unfolding inType
+numbers-fit to [] h = tt
+numbers-fit to (z ∷ zs) h = (number-fits (layout to) z (h .0), numbers-fit to zs (h .1))
+
+-- the head and the literals of a predicate whose numbers are of the type are its answer sheet
+pub predicate-written : (to : PrimitiveType) (p : Predicate ℤ) {before after : List ℕ} {n : ℕ} → AllOf (λ z. inType to z ≡ true) (literalsIn p)
+    → after ≡ over 0 (answerBytes (operatorIn p) to (map (λ z. numberBytes (layout to) z) (literalsIn p))) before
+    → n ≡ recordSize * suc (length (literalsIn p))
+    → Settled (numbersWritten to (ok (some p))) before after (Written n)
+unfolding answerSheet
+predicate-written to p {before} inside written size =
+    let f : ℤ → List ℕ = λ z. numberBytes (layout to) z in
+    let q = mapLiterals f p in
+    let fit : Fits to (literalsIn q) = rw (map-literals f p) (numbers-fit to (literalsIn p) inside) in
+    let long : recordSize * suc (length (literalsIn q)) ≡ recordSize * suc (length (literalsIn p)) = rw (map-literals f p, length-map (literalsIn p) f) in
+    record {
+      number = ap Written (size ∙ sym long ∙ sym (length-answer to q fit));
+      left = written ∙ rw (map-operator f p, map-literals f p);
+    }
+
+-- ---- numbers that are read are of the column's type
+
+module _ (column : PrimitiveType) (records : NumberColumn column) (s : List ℕ) where
+  pub number-inside : (k : ℕ) → inType column (numberAt (layout column) s k) ≡ true
+  unfolding inType
+  number-inside k = rw (records .is) (signed-in-range (records .size) _ (subst Sized (records .is) (sized column)))
+
+  pub numbers-inside : (ks : List ℕ) → AllOf (λ z. inType column z ≡ true) (map (numberAt (layout column) s) ks)
+  numbers-inside [] = tt
+  numbers-inside (k ∷ ks) = (number-inside k, numbers-inside ks)
+
+-- ---- a leaf with one literal
+pub identity-type : (transform : Transform) (column to : PrimitiveType) → transform ≡ Identity → resultType transform column ≡ ok to → column ≡ to
+unfolding resultType
+identity-type transform column to t result = ok-inj (rw t at result)
+
+module _ {x : Leaf} {s records out : List ℕ} (column : NumberColumn (x .column)) (ready : ReadyLeaf x s records out)
+    (single : takesOne (byArity (x .operator)) ≡ true) where
+  abbrev o : BinaryOperator
+  o = takes-one (byArity (x .operator)) single .0
+
+  is-one : byArity (x .operator) ≡ one o
+  is-one = takes-one (byArity (x .operator)) single .1
+
+  abbrev literal : ℤ
+  literal = numberAt (layout (x .column)) s (getD records 0 0)
+
+  one-leaf : numberLeafAt x s records ≡ test (binary o literal)
+  one-leaf = rw (is-one, one-literal ready single (numberAt (layout (x .column)) s))
+
+  -- under Identity it is the leaf itself
+  pub one-itself : x .transform ≡ Identity
+      → numberSteps x (numberLeafAt x s records) ≡ oneWritten (x .to) (numberProjected (number-projection.One (x .operator) literal))
+  unfolding numberSteps
+  one-itself t = rw (one-leaf, t, is-one)
+
+  pub itself-inside : x .transform ≡ Identity → NumbersIn (x .to) (number-projection.One (x .operator) literal)
+  itself-inside t =
+      (rw (← identity-type (x .transform) (x .column) (x .to) t (ready .result)) (number-inside (x .column) column s (getD records 0 0)), single)
+
+  -- else what it comes to
+  module _ (other : isIdentity (x .transform) ≡ false) (p : NumberProjection)
+      (projected : numberProjected p ≡ numberLeaf (x .question) (x .column) (x .transform) (byArity (x .operator)) literal) where
+    step-is : numberStep (x .column) (x .transform) (x .question) (binary o literal) ≡ numberProjected p
+    step-is = sym (projected ∙ rw is-one)
+
+    stepped : byTransform compareNumbers (numberStep (x .column) (x .transform) (x .question)) (x .transform) (test (binary o literal))
+        ≡ (numberProjected p >>= λ q. ok (mapped test q))
+    stepped = steps-through compareNumbers (numberStep (x .column) (x .transform) (x .question)) (x .transform) (test (binary o literal)) (ready .known) other ∙ rw step-is
+
+    pub one-projected : numberSteps x (numberLeafAt x s records) ≡ oneWritten (x .to) (numberProjected p)
+    unfolding numberSteps
+    one-projected = rw (one-leaf, stepped)
+
+    landed : (q : Test ℤ) → numberProjected p ≡ ok (some q) → AllOf (λ z. inType (x .to) z ≡ true) (literalsIn (test q))
+    unfolding projectNumbers
+    landed q e =
+        numbers-land
+        (x .question)
+        (x .column)
+        (x .to)
+        (x .transform)
+        (test (binary o literal))
+        (test q)
+        (ready .result)
+        (number-inside (x .column) column s (getD records 0 0), tt)
+        (after-checks
+        compareNumbers
+        (numberStep (x .column) (x .transform) (x .question))
+        (x .column)
+        (x .to)
+        (x .transform)
+        (ready .result)
+        (test (binary o literal))
+        ∙ stepped
+        ∙ rw e)
+        .all
+
+  pub projected-inside : isIdentity (x .transform) ≡ false → (p : NumberProjection)
+      → numberProjected p ≡ numberLeaf (x .question) (x .column) (x .transform) (byArity (x .operator)) literal → OneIn p → NumbersIn (x .to) p
+  projected-inside other number-projection.None e h = tt
+  projected-inside other (number-projection.One p t) e h =
+      let k = takes-one (byArity p) h in
+      (landed other (number-projection.One p t) e (binary (k .0) t) (ap (λ a. ok (oneTest a t)) (k .1)) .0, h)
+  projected-inside other (number-projection.Two t) e h =
+      let all = landed other (number-projection.Two t) e (set isIn (t ∷ sucℤ t ∷ [])) refl in
+      (all .0, all .1 .0)
+  projected-inside other (number-projection.Err k) e h = tt

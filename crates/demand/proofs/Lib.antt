@@ -1,0 +1,10 @@
+-- The proof of demand 3 over bytes: that the demand is about something, what it rests on, and the theorem.
+pub mod Witnesses
+pub mod ReadBackLaws
+pub mod KindLaws
+pub mod KindRowLaws
+pub mod NumberKindLaws
+pub mod ExactLaws
+pub mod BytesKindLaws
+pub mod Demand3Proof
+pub mod BufferLaws

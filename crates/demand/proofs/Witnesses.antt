@@ -1,0 +1,120 @@
+-- Demand 3 is about something: for each of its clauses a sheet, a row, its partition value and an answer sheet that meet what the clause asks.
+-- Assumes nothing.
+use Prim.Native.Nat.{ℕ}
+use native.Mathlib.Omega.{arith}
+use mathlib.Core.List.{List, [], _∷_}
+use mathlib.Core.Path.{refl}
+use lib.IntN.{ℤ, pos, negsuc}
+use Rattle.values.specs.laws.IntLaws.{lt-true}
+use Rattle.values.specs.Order.{compareNumbers}
+use Rattle.values.specs.Transforms.{transformOf}
+use Rattle.values.specs.Types.{inType}
+use Rattle.values.specs.Words.{signedBytes}
+use Rattle.values.specs.declared.datatypes.PrimitiveType.the-variants.{Int, Date}
+use Rattle.values.specs.declared.transform.Transform.the-variants.{Year}
+use Rattle.transform.specs.Calendar.{inCalendar, shift, civilYear, yearOf}
+use Rattle.transform.specs.Count.{countOff}
+use Rattle.transform.specs.Floor.{floorDiv, floorMod}
+use Rattle.transform.specs.Gregorian.{leap, yearLength, cycleYear, yearAt}
+use Rattle.partition.specs.Partition.{transformNumber, checked, partition, numberPartition}
+use Rattle.partition.specs.ResultType.{resultType}
+use Rattle.transform.specs.Temporal.{dayOf}
+use Rattle.transform.specs.Truncate.{truncated}
+use Rattle.expr.specs.Operators.{lessThanOrEq, lessThan, isIn}
+use Rattle.expr.specs.Predicates.{test, binary, set}
+use Rattle.projection.specs.Projection.{projectNumbers}
+use Rattle.projection.specs.declared.question.Question.the-variants.{Inclusive, Strict}
+use Rattle.sheet.specs.Records.{content, value}
+use Rattle.sheet.specs.Sheets.{head, sheet}
+use Rattle.write.specs.Written.{answerSheet}
+use Rattle.api.specs.HoldsTest.{holdsTest}
+use Rattle.meets.specs.Tested.{testedSheet}
+use Rattle.answers.specs.Answers.{projectedLeaf, transformedRow}
+use Rattle.api.specs.Requests.{sheetOf, valueOf}
+use Rattle.api.specs.Routines.{projectSheet, transformValue}
+use Rattle.api.specs.Demand3.{Returns, Accepts, RowOf, Numeric, Lifts, OneAbove}
+
+abbrev int : ℤ → List ℕ
+int z = signedBytes 4 z
+
+abbrev intValue : ℤ → List ℕ
+intValue z = valueOf (int z)
+
+-- ---- an Int under Truncate 10: the leaf < 300, the row 5 and its partition value 0, and the predicates ≤ 290 and < 300
+abbrev below300 : List ℕ
+below300 = sheetOf 201 1 1 10 (int (pos 300) ∷ [])
+
+abbrev atMost290 : List ℕ
+atMost290 = answerSheet Int (test (binary lessThanOrEq (int (pos 290))))
+
+abbrev less300 : List ℕ
+less300 = answerSheet Int (test (binary lessThan (int (pos 300))))
+
+abbrev five : List ℕ
+five = intValue (pos 5)
+
+abbrev nought : List ℕ
+nought = intValue (pos 0)
+
+row-of-nought : RowOf below300 nought five
+unfolding transformValue head transformOf value content transformedRow resultType checked numberPartition partition transformNumber inType truncated floorMod
+row-of-nought = refl
+
+returned : Returns Inclusive below300 atMost290 × Returns Strict below300 less300
+unfolding projectSheet sheet head transformOf content projectedLeaf resultType checked projectNumbers transformNumber inType truncated floorMod answerSheet
+returned = (refl, refl)
+
+accepted : Accepts below300 five × Accepts less300 nought
+unfolding holdsTest sheet head transformOf value content testedSheet compareNumbers answerSheet
+accepted = (refl, refl)
+
+numeric : Numeric below300
+numeric = omega arith
+
+pub no-row-lost-asks : (s q v p : List ℕ) × RowOf s p v × Accepts s v × Returns Inclusive s q
+no-row-lost-asks = (below300, atMost290, five, nought, row-of-nought, accepted .0, returned .0)
+
+pub strict-is-safe-asks : (s q v p : List ℕ) × RowOf s p v × Returns Strict s q × Accepts q p
+strict-is-safe-asks = (below300, less300, five, nought, row-of-nought, returned .1, accepted .1)
+
+pub strict-is-exact-asks : (s q v p : List ℕ) × Numeric s × RowOf s p v × Returns Strict s q
+strict-is-exact-asks = (below300, less300, five, nought, numeric, row-of-nought, returned .1)
+
+pub inclusive-is-exact-asks : (s q v p : List ℕ) × Numeric s × RowOf s p v × Returns Inclusive s q
+inclusive-is-exact-asks = (below300, atMost290, five, nought, numeric, row-of-nought, returned .0)
+
+-- ---- a Date under Year, which is lifted: the leaf Eq -1, the last day of 1969, comes to In of -1 and 0, and 0, the year of day 0, is one above -1
+abbrev lastOf1969 : List ℕ
+lastOf1969 = sheetOf 205 3 2 0 (int (negsuc 0) ∷ [])
+
+abbrev bothYears : List ℕ
+bothYears = answerSheet Int (test (set isIn (int (negsuc 0) ∷ int (pos 0) ∷ [])))
+
+abbrev minusOne : List ℕ
+minusOne = intValue (negsuc 0)
+
+rows-of-years : RowOf lastOf1969 nought nought × RowOf lastOf1969 minusOne minusOne
+unfolding transformValue head transformOf value content transformedRow resultType checked numberPartition partition
+    transformNumber inType dayOf floorDiv inCalendar yearOf civilYear shift yearAt cycleYear countOff yearLength leap
+rows-of-years = (refl, refl)
+
+years-returned : Returns Inclusive lastOf1969 bothYears
+unfolding projectSheet sheet head transformOf content projectedLeaf resultType checked projectNumbers
+    transformNumber inType dayOf floorDiv inCalendar yearOf civilYear shift yearAt cycleYear countOff yearLength leap compareNumbers answerSheet
+years-returned = refl
+
+years-accepted : Accepts lastOf1969 minusOne × Accepts bothYears nought
+unfolding holdsTest sheet head transformOf value content testedSheet compareNumbers answerSheet
+years-accepted = (refl, refl)
+
+lifts : Lifts lastOf1969
+unfolding head transformOf
+lifts = (record { column = Date; transform = Year }, refl, refl)
+
+one-above : OneAbove lastOf1969 nought
+one-above =
+    (minusOne, negsuc 0, (refl, refl), lt-true (negsuc 0) (pos 0) refl, (refl, refl), (minusOne, rows-of-years .1, years-accepted .0))
+
+pub one-above-asks : (s q v p : List ℕ) × Numeric s × RowOf s p v × Returns Inclusive s q × Accepts q p × Lifts s × OneAbove s p
+one-above-asks =
+    (lastOf1969, bothYears, nought, nought, omega arith, rows-of-years .0, years-returned, years-accepted .1, lifts, one-above)

@@ -1,0 +1,39 @@
+-- What each enum of the code says, as the definitions have it. Assumes nothing.
+use mathlib.Core.Bool.{Bool, false, not}
+use Rattle.values.specs.Outcomes.{Res, ok, err}
+use Rattle.values.specs.Order.{isLess, isEqual}
+use Rattle.values.specs.Order.{flip}
+use Rattle.values.specs.declared.order.Ordering.{Ordering}
+use Rattle.expr.specs.Operators.{Operator, none, one, many}
+use Rattle.expr.specs.Operators as operators
+use Rattle.expr.specs.Holds.{Tests, binaryMeets}
+use Rattle.expr.specs.declared.operator.PredicateOperator.{PredicateOperator}
+use Rattle.expr.specs.declared.operator.OperatorResult.{OperatorResult}
+use Rattle.expr.specs.declared.operator.OperatorResult.the-variants as operator-result
+
+abbrev pub operatorResult : Res PredicateOperator → OperatorResult
+operatorResult (ok o) = operator-result.Ok o
+operatorResult (err e) = operator-result.Err e
+
+-- a present value against the one literal of an operator that takes one
+abbrev pub meetsOne : {A : Type 0} → Tests A → Operator → A → A → Bool
+meetsOne by (none o) v l = false
+meetsOne by (one o) v l = binaryMeets by o v l
+meetsOne by (many o) v l = false
+
+-- whether an order of a value to a literal is one that a comparison asks for, where `flip o` is that of the literal to the value; a beginning asks for
+-- none
+abbrev pub comparisonAsks : operators.Binary → Ordering → Bool
+comparisonAsks operators.lessThan o = isLess o
+comparisonAsks operators.lessThanOrEq o = not (isLess (flip o))
+comparisonAsks operators.greaterThan o = isLess (flip o)
+comparisonAsks operators.greaterThanOrEq o = not (isLess o)
+comparisonAsks operators.eq o = isEqual o
+comparisonAsks operators.notEq o = not (isEqual o)
+comparisonAsks operators.startsWith o = false
+comparisonAsks operators.notStartsWith o = false
+
+abbrev pub asksFor : Operator → Ordering → Bool
+asksFor (none o) order = false
+asksFor (one o) order = comparisonAsks o order
+asksFor (many o) order = false

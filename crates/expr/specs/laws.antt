@@ -1,0 +1,3 @@
+-- The laws about the definitions of `expr`.
+pub mod PredicateLaws
+pub mod HoldsLaws

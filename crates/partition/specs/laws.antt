@@ -1,0 +1,4 @@
+-- The laws about the definitions of `partition`.
+pub mod PartitionLaws
+pub mod BytesPartitionLaws
+pub mod PartitionRowLaws

@@ -1,0 +1,186 @@
+-- Demand 3 over leaves, of every type, transform and width. Assumes nothing.
+use Prim.Native.Nat.{ℕ}
+use mathlib.Core.Bool.{true}
+use mathlib.Core.List.{List}
+use mathlib.Core.Logic.{_⊎_, inl, ⊎-elim}
+use mathlib.Core.Path.{_≡_, sym, ap, _∙_}
+use lib.IntN.{ℤ}
+use lib.Signed.{_≤ℤ_}
+use Rattle.values.specs.Ascending.{AllOf}
+use Rattle.values.specs.Outcomes.{ok, Row, missing, present}
+use Rattle.values.specs.laws.OutcomeLaws.{ok-inj, present-inj}
+use Rattle.values.specs.Order.{compareNumbers, compareBytes}
+use Rattle.values.specs.laws.OrderLaws.{bytes-order}
+use Rattle.values.specs.laws.TestLaws.{clash}
+use Rattle.values.specs.declared.datatypes.PrimitiveType.{PrimitiveType}
+use Rattle.values.specs.declared.datatypes.PrimitiveType.the-variants.{String}
+use Rattle.values.specs.declared.transform.Transform.{Transform}
+use Rattle.values.specs.declared.transform.Transform.the-variants.{Identity, Truncate}
+use Rattle.partition.specs.Partition.{ofRow, transformNumber, transformBytes, numberPartition, bytesPartition}
+use Rattle.partition.specs.laws.BytesPartitionLaws.{bytes-present, bytes-missing, bytes-identity, string-truncates}
+use Rattle.partition.specs.laws.PartitionLaws.{number-mono, number-starts, number-identity, number-missing}
+use Rattle.partition.specs.laws.PartitionRowLaws.{number-rows, bytes-rows}
+use Rattle.transform.specs.Truncate.{firstCodePoints}
+use Rattle.expr.specs.Holds.{numberTests, bytesTests, meets}
+use Rattle.expr.specs.Predicates.{Test, Predicate, unary, test, literalsIn}
+use Rattle.projection.specs.laws.ByteLaws.{follows, leads}
+use Rattle.projection.specs.laws.LeafDemand.{HeldIn, NoRowLost, StrictIsSafe, StrictExact, InclusiveExact, NumbersStrictExact, NumbersInclusiveExact, BytesNoRowLost, BytesStrictIsSafe}
+use Rattle.projection.specs.Lifting.{lifted}
+use Rattle.projection.specs.laws.NumberLaws.{LiftedExact, AllExact, lifted-exact, strict-exact}
+use Rattle.projection.specs.laws.NumberRowLaws.{strict-rows, inclusive-rows, strict-unary, inclusive-unary, strict-itself, inclusive-itself}
+use Rattle.projection.specs.Projection.{through, numberUnder, numberStep, projectNumbers, bytesUnder, bytesStep, projectBytes}
+use Rattle.projection.specs.laws.ProjectionLaws.{bySteps, Course, leafItself, stepped, course}
+use Rattle.projection.specs.laws.MissingLaws.{literal-value, same-row}
+use Rattle.projection.specs.laws.SoundLaws.{Demanded, Sound, tests-sound, unary-sound, itself-sound}
+use Rattle.projection.specs.laws.StepLaws.{Returned, returned, returned-by, returned-map}
+use Rattle.projection.specs.Steps.{some}
+use Rattle.projection.specs.declared.question.Question.{Question}
+use Rattle.projection.specs.declared.question.Question.the-variants.{Inclusive, Strict}
+
+-- ---- numbers
+module _ (column : PrimitiveType) (transform : Transform) where
+  under-mono : (v w p q : ℤ) → numberUnder column transform v ≡ ok p → numberUnder column transform w ≡ ok q → v ≤ℤ w → p ≤ℤ q
+  under-mono v w p q a b h =
+      number-mono
+      column
+      transform
+      v
+      w
+      (literal-value (transformNumber column transform) v p .0 a)
+      (literal-value (transformNumber column transform) w q .0 b)
+      h
+
+  never-missing : bySteps transform ≡ true → (v : ℤ) → transformNumber column transform v ≡ ok missing → ⊥
+  never-missing h v e = clash h (ap bySteps (number-missing column transform v e))
+
+  steps-strict : bySteps transform ≡ true → (leaf : Predicate ℤ)
+      → Returned (through (numberStep column transform Strict) leaf) (StrictExact (ofRow (transformNumber column transform)) leaf)
+  steps-strict h (unary o) = strict-unary (transformNumber column transform) (never-missing h) o
+  steps-strict h (test x) =
+      returned-map
+      test
+      (numberStep column transform Strict x)
+      (AllExact (numberUnder column transform) x)
+      (StrictExact (ofRow (transformNumber column transform)) (test x))
+      (strict-rows (transformNumber column transform) (never-missing h) x)
+      (strict-exact (numberUnder column transform) under-mono x)
+
+  steps-inclusive : bySteps transform ≡ true → (leaf : Predicate ℤ)
+      → Returned (through (numberStep column transform Inclusive) leaf) (InclusiveExact (ofRow (transformNumber column transform)) leaf (lifted column transform))
+  steps-inclusive h (unary o) = inclusive-unary (transformNumber column transform) (never-missing h) (lifted column transform) o
+  steps-inclusive h (test x) =
+      returned-map
+      test
+      (numberStep column transform Inclusive x)
+      (LiftedExact (numberUnder column transform) (lifted column transform) x)
+      (InclusiveExact (ofRow (transformNumber column transform)) (test x) (lifted column transform))
+      (inclusive-rows (transformNumber column transform) (never-missing h) (lifted column transform) x)
+      (lifted-exact (numberUnder column transform) under-mono (lifted column transform) x)
+
+  -- under Identity a row is its own partition value
+  identity-row : transform ≡ Identity → (r p : Row ℤ) → ofRow (transformNumber column transform) r ≡ ok p → r ≡ p
+  identity-row t r p e = same-row (transformNumber column transform) own r p e
+    where
+      own : (v : ℤ) (p : Row ℤ) → transformNumber column transform v ≡ ok p → present v ≡ p
+      own v p e = let k = rw t at e in ok-inj (sym (number-identity column v (number-starts column Identity v k)) ∙ k)
+
+  strict-course : (leaf q : Predicate ℤ) → Course compareNumbers (numberStep column transform Strict) transform leaf q
+      → StrictExact (ofRow (transformNumber column transform)) leaf q
+  strict-course leaf q (leafItself t e) = rw e (strict-itself (ofRow (transformNumber column transform)) (identity-row t) leaf)
+  strict-course leaf q (stepped h e) = returned (through (numberStep column transform Strict) leaf) _ (steps-strict h leaf) e
+
+  inclusive-course : (leaf q : Predicate ℤ) → Course compareNumbers (numberStep column transform Inclusive) transform leaf q
+      → InclusiveExact (ofRow (transformNumber column transform)) leaf (lifted column transform) q
+  inclusive-course leaf q (leafItself t e) =
+      rw e (inclusive-itself (ofRow (transformNumber column transform)) (identity-row t) leaf (lifted column transform) (ap (lifted column) t))
+  inclusive-course leaf q (stepped h e) = returned (through (numberStep column transform Inclusive) leaf) _ (steps-inclusive h leaf) e
+
+pub numbers-strict-exact : NumbersStrictExact
+unfolding projectNumbers
+numbers-strict-exact column transform leaf q e =
+    let c = course compareNumbers (numberStep column transform Strict) column transform leaf q e in
+    rw (number-rows column transform (c .0 .0) (c .0 .1)) (strict-course column transform leaf q (c .1))
+
+pub numbers-inclusive-exact : NumbersInclusiveExact
+unfolding projectNumbers
+numbers-inclusive-exact column transform leaf q e =
+    let c = course compareNumbers (numberStep column transform Inclusive) column transform leaf q e in
+    rw (number-rows column transform (c .0 .0) (c .0 .1)) (inclusive-course column transform leaf q (c .1))
+
+-- exactness is soundness too
+pub numbers-no-row-lost : (column : PrimitiveType) (transform : Transform) (leaf q : Predicate ℤ)
+    → projectNumbers Inclusive column transform leaf ≡ ok (some q)
+    → NoRowLost numberTests numberTests (λ v. Unit {0}) (numberPartition column transform) leaf q
+numbers-no-row-lost column transform leaf q e r p held h m = numbers-inclusive-exact column transform leaf q e r p h .1 (inl (r, h, m))
+
+pub numbers-strict-is-safe : (column : PrimitiveType) (transform : Transform) (leaf q : Predicate ℤ)
+    → projectNumbers Strict column transform leaf ≡ ok (some q)
+    → StrictIsSafe numberTests numberTests (λ v. Unit {0}) (numberPartition column transform) leaf q
+numbers-strict-is-safe column transform leaf q e r p held h m = numbers-strict-exact column transform leaf q e r p h .0 m r h
+
+-- ---- strings and binaries, of either question
+
+-- Truncate of a String
+string-value : (question : Question) (w : ℕ) (x q : Test (List ℕ)) → AllOf (HeldIn String) (literalsIn (test x))
+    → bytesStep String (Truncate w) question x ≡ ok (some q)
+    → (v p : List ℕ) → HeldIn String v → transformBytes String (Truncate w) v ≡ ok (present p)
+    → Demanded question (meets bytesTests x v) (meets bytesTests q p)
+string-value question w x q fine d v p held e = rw (present-inj (ok-inj (sym e ∙ string-truncates w v))) (go question d)
+  where
+    cut : (s : List ℕ) → bytesUnder String (Truncate w) s ≡ ok (firstCodePoints w s)
+    cut s = literal-value (transformBytes String (Truncate w)) s (firstCodePoints w s) .1 (string-truncates w s)
+
+    go : (question : Question) → bytesStep String (Truncate w) question x ≡ ok (some q)
+        → Demanded question (meets bytesTests x v) (meets bytesTests q (firstCodePoints w v))
+    go Inclusive d = returned (bytesStep String (Truncate w) Inclusive x) _ (follows w (bytesUnder String (Truncate w)) cut x fine) d v held
+    go Strict d = returned (bytesStep String (Truncate w) Strict x) _ (leads w (bytesUnder String (Truncate w)) cut x fine) d v held
+
+module _ (question : Question) (column : PrimitiveType) (transform : Transform) where
+  -- no other byte string has a partition value where projections go by steps
+  bytes-value : bySteps transform ≡ true → (x q : Test (List ℕ)) → AllOf (HeldIn column) (literalsIn (test x))
+      → bytesStep column transform question x ≡ ok (some q)
+      → (v p : List ℕ) → HeldIn column v → transformBytes column transform v ≡ ok (present p)
+      → Demanded question (meets bytesTests x v) (meets bytesTests q p)
+  bytes-value h x q fine d v p held e =
+      ⊎-elim
+      (λ t. clash h (ap bySteps t))
+      (λ k. string-value question (k .0) x q (rw (k .2) at fine) (rw (k .1, k .2) at d) v p (rw (k .2) at held) (rw (k .1, k .2) at e))
+      (bytes-present column transform v p e)
+
+  bytes-never : bySteps transform ≡ true → (v : List ℕ) → transformBytes column transform v ≡ ok missing → ⊥
+  bytes-never h v e = clash h (ap bySteps (bytes-missing column transform v e))
+
+  bytes-steps : bySteps transform ≡ true → (leaf : Predicate (List ℕ)) → AllOf (HeldIn column) (literalsIn leaf)
+      → Returned (through (bytesStep column transform question) leaf) (Sound bytesTests bytesTests (HeldIn column) question (ofRow (transformBytes column transform)) leaf)
+  bytes-steps h (unary o) fine = unary-sound bytesTests bytesTests (HeldIn column) (transformBytes column transform) (bytes-never h) question o
+  bytes-steps h (test x) fine =
+      returned-map
+      test
+      (bytesStep column transform question x)
+      (λ q. bytesStep column transform question x ≡ ok (some q))
+      (Sound bytesTests bytesTests (HeldIn column) question (ofRow (transformBytes column transform)) (test x))
+      (λ q d. tests-sound bytesTests bytesTests (HeldIn column) (transformBytes column transform) (bytes-never h) question x q (bytes-value h x q fine d))
+      (returned-by (bytesStep column transform question x) (λ q. bytesStep column transform question x ≡ ok (some q)) (λ q d. d))
+
+  bytes-own : transform ≡ Identity → (r p : Row (List ℕ)) → ofRow (transformBytes column transform) r ≡ ok p → r ≡ p
+  bytes-own t r p e = same-row (transformBytes column transform) (λ v p e. ok-inj (sym (bytes-identity column v) ∙ (rw t at e))) r p e
+
+  bytes-course : (leaf q : Predicate (List ℕ)) → AllOf (HeldIn column) (literalsIn leaf)
+      → Course compareBytes (bytesStep column transform question) transform leaf q
+      → Sound bytesTests bytesTests (HeldIn column) question (ofRow (transformBytes column transform)) leaf q
+  bytes-course leaf q fine (leafItself t e) =
+      rw e (itself-sound bytesTests (bytes-order .equal) (HeldIn column) (ofRow (transformBytes column transform)) (bytes-own t) question leaf)
+  bytes-course leaf q fine (stepped h e) = returned (through (bytesStep column transform question) leaf) _ (bytes-steps h leaf fine) e
+
+  bytes-sound : (leaf q : Predicate (List ℕ)) → AllOf (HeldIn column) (literalsIn leaf) → projectBytes question column transform leaf ≡ ok (some q)
+      → Sound bytesTests bytesTests (HeldIn column) question (bytesPartition column transform) leaf q
+  unfolding projectBytes
+  bytes-sound leaf q fine e =
+      let c = course compareBytes (bytesStep column transform question) column transform leaf q e in
+      rw (bytes-rows column transform (c .0 .0) (c .0 .1)) (bytes-course leaf q fine (c .1))
+
+pub bytes-no-row-lost : BytesNoRowLost
+bytes-no-row-lost column transform leaf q fine e = bytes-sound Inclusive column transform leaf q fine e
+
+pub bytes-strict-is-safe : BytesStrictIsSafe
+bytes-strict-is-safe column transform leaf q fine e = bytes-sound Strict column transform leaf q fine e

@@ -1,0 +1,106 @@
+-- Bytes that are no record or no sheet are refused with one error only: 3. Assumes nothing.
+use Prim.Native.Nat.{ℕ, suc, _+_, _-_, _*_, _/_, _%_}
+use mathlib.Core.Bool.{Bool, true, false, cond}
+use mathlib.Core.List.{List, [], _∷_}
+use mathlib.Core.Path.{_≡_, refl, sym, subst}
+use lib.Dec.{ltb, leb, eqb}
+use lib.ListN.{length, drop}
+use Rattle.values.specs.Numbered.{Numbered, _is_, find}
+use Rattle.values.specs.Outcomes.{Res, ok, err, need, each, _>>=_, _>>_}
+use Rattle.values.specs.laws.OutcomeLaws.{ok-not-err}
+use Rattle.values.specs.Transforms.{transforms, widthOf, transformOf}
+use Rattle.values.specs.Types.{Layout, contentSize, types, layout, fits}
+use Rattle.values.specs.Words.{word, zeroAt}
+use Rattle.values.specs.declared.error.ErrorKind.{ErrorKind}
+use Rattle.values.specs.declared.error.ErrorKind.the-variants.{Malformed}
+use Rattle.expr.specs.Operators.{Operator, none, one, many, byArity, operators}
+use Rattle.expr.specs.Predicates.{withLiterals, predicate}
+use Rattle.sheet.specs.Records.{headerSize, recordSize, records, nextIn, lengthIn, content, missingMark, missingValue, presentValue, value}
+use Rattle.sheet.specs.Sheets.{chain, head, sheet}
+
+-- ---- any step: its refusals are all among those that p holds of
+pub record Only {A : Type 0} (p : ErrorKind → Type 0) (r : Res A) : Type 0 where
+  pub only : (e : ErrorKind) → r ≡ err e → p e
+
+module _ {p : ErrorKind → Type 0} where
+  pub only-ok : {A : Type 0} {x : A} → Only p (ok x)
+  only-ok = record { only = λ e q. ok-not-err (sym q) }
+
+  pub only-err : {A : Type 0} {e : ErrorKind} → p e → Only {A = A} p (err e)
+  only-err {A} {e} h = record { only = λ f q. let same : e ≡ f = cc in subst p same h }
+
+  pub only-bind : {A B : Type 0} (r : Res A) (f : A → Res B) → Only p r → ((x : A) → Only p (f x)) → Only p (r >>= f)
+  only-bind (ok x) f h k = k x
+  only-bind (err e) f h k = only-err (h .only e refl)
+
+  pub only-need : {B : Type 0} (b : Bool) (e : ErrorKind) (r : Res B) → p e → Only p r → Only p (need b e >> r)
+  only-need true e r h k = k
+  only-need false e r h k = only-err h
+
+  pub only-cond : {A : Type 0} (b : Bool) (r s : Res A) → Only p r → Only p s → Only p (cond b r s)
+  only-cond true r s h k = h
+  only-cond false r s h k = k
+
+  pub only-each : {A B : Type 0} (f : A → Res B) → ((x : A) → Only p (f x)) → (xs : List A) → Only p (each f xs)
+  only-each f h [] = only-ok
+  only-each f h (x ∷ xs) = only-bind (f x) _ (h x) (λ y. only-bind (each f xs) _ (only-each f h xs) (λ ys. only-ok))
+
+-- ---- records and sheets
+abbrev pub OnlyMalformed : {A : Type 0} → Res A → Type 0
+OnlyMalformed r = Only (λ (e : ErrorKind). e ≡ Malformed) r
+
+pub must : {B : Type 0} (b : Bool) (r : Res B) → OnlyMalformed r → OnlyMalformed (need b Malformed >> r)
+must b r h = only-need b Malformed r refl h
+
+pub content-only : (l : Layout) (r : List ℕ) → OnlyMalformed (content l r)
+unfolding content
+content-only l r =
+    must (eqb (length r) recordSize) _ (must (fits l (lengthIn r)) _ (must (zeroAt (headerSize + lengthIn r) (contentSize - lengthIn r) r) _ only-ok))
+
+pub value-only : (l : Layout) (r : List ℕ) → OnlyMalformed (value l r)
+unfolding value
+value-only l r =
+    let absent : OnlyMalformed (missingValue r) = must (eqb (length r) recordSize) _ (must (zeroAt headerSize contentSize r) _ only-ok) in
+    let there : OnlyMalformed (presentValue l r) = only-bind (content l r) _ (content-only l r) (λ bs. only-ok) in
+    must (eqb (nextIn r) 0) _ (only-cond (eqb (lengthIn r) missingMark) (missingValue r) (presentValue l r) absent there)
+
+pub find-only : {X : Type 0} (xs : List (Numbered X)) (n : ℕ) → OnlyMalformed (find xs n)
+find-only [] n = only-err refl
+find-only (k is x ∷ xs) n = only-cond (eqb n k) (ok x) (find xs n) only-ok (find-only xs n)
+
+transform-only : (number width : ℕ) → OnlyMalformed (transformOf number width)
+unfolding transformOf
+transform-only number width =
+    only-bind (find (transforms width) number) _ (find-only (transforms width) number) (λ t. must (eqb width (widthOf t)) (ok t) only-ok)
+
+pub head-only : (type transform width : ℕ) → OnlyMalformed (head type transform width)
+unfolding head
+head-only type transform width =
+    only-bind (find types type) _ (find-only types type) (λ t.
+    only-bind (transformOf transform width) _ (transform-only transform width) (λ f. only-ok))
+
+pub chain-only : (rs : List (List ℕ)) (k n : ℕ) → OnlyMalformed (chain k n rs)
+chain-only [] k n = must (eqb n 0) (ok []) only-ok
+chain-only (r ∷ rs) k n =
+    let on = only-bind (chain (suc k) (nextIn r) rs) (λ (ps : List (List ℕ)). ok (r ∷ ps)) (chain-only rs (suc k) (nextIn r)) (λ ps. only-ok) in
+    only-cond (eqb n 0) (ok []) _ only-ok (only-cond (eqb n k) _ _ on (chain-only rs (suc k) n))
+
+leaf-only : {A : Type 0} (a : Operator) (ls : List A) → OnlyMalformed (withLiterals a ls)
+leaf-only (none o) [] = only-ok
+leaf-only (none o) (l ∷ ls) = only-err refl
+leaf-only (one o) [] = only-err refl
+leaf-only (one o) (l ∷ []) = only-ok
+leaf-only (one o) (l ∷ k ∷ ls) = only-err refl
+leaf-only (many o) ls = only-ok
+
+pub sheet-only : (most : ℕ) (s : List ℕ) → OnlyMalformed (sheet most s)
+unfolding sheet
+sheet-only most s =
+    let rs = records (length s / recordSize - 1) (drop recordSize s) in
+    must (ltb 0 (length s)) _ (must (eqb (length s % recordSize) 0) _ (must (leb (length s) (recordSize * suc most)) _
+    (only-bind (find operators (word 2 2 s)) _ (find-only operators (word 2 2 s)) (λ o.
+    only-bind (head (word 4 1 s) (word 5 1 s) (word 8 4 s)) _ (head-only (word 4 1 s) (word 5 1 s) (word 8 4 s)) (λ h.
+    must (zeroAt 6 2 s) _ (must (zeroAt 12 (recordSize - 12) s) _
+    (only-bind (chain 1 (nextIn s) rs) _ (chain-only rs 1 (nextIn s)) (λ qs.
+    only-bind (each (content (layout (h .column))) qs) _ (only-each (content (layout (h .column))) (content-only (layout (h .column))) qs) (λ ls.
+    only-bind (predicate o ls) _ (leaf-only (byArity o) ls) (λ leaf. only-ok))))))))))

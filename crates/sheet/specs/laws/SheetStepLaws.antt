@@ -1,0 +1,109 @@
+-- A sheet by the steps of the code that reads it: its size, its head, the numbers on its chain, and how many literals its operator takes. Assumes nothing.
+use Prim.Native.Nat.{ℕ, suc, _-_, _*_, _%_}
+use native.Mathlib.Omega.{arith}
+use mathlib.Core.Bool.{Bool, true, false}
+use mathlib.Core.List.{List, [], _∷_, map}
+use mathlib.Core.Path.{_≡_, refl, sym, ap, _∙_}
+use lib.Dec.{ltb, leb, eqb}
+use lib.ListN.{length, drop}
+use borrow.Author.Tests.{ne-eqb}
+use Rattle.values.specs.Numbered.{find}
+use Rattle.values.specs.Outcomes.{Res, ok, err, need, each, _>>=_, _>>_}
+use Rattle.values.specs.laws.TestLaws.{clash}
+use Rattle.values.specs.Types.{Layout, layout}
+use Rattle.values.specs.Words.{word, zeroAt}
+use Rattle.values.specs.declared.error.ErrorKind.the-variants.{Malformed}
+use Rattle.expr.specs.Operators.{Operator, none, one, many, byArity, operators, operatorOf, takes}
+use Rattle.expr.specs.laws.PredicateLaws.{operator-of}
+use Rattle.expr.specs.Predicates.{Predicate, unary, test, binary, set, operatorIn, literalsIn, withLiterals, predicate}
+use Rattle.expr.specs.declared.operator.PredicateOperator.{PredicateOperator}
+use Rattle.sheet.specs.code.ReadAnswers.{recordCount, contentAt, headIn, recordsFrom}
+use Rattle.sheet.specs.laws.PartLaws.{next-here}
+use Rattle.sheet.specs.Records.{recordSize, records, nextIn, content}
+use Rattle.sheet.specs.Sheets.{chain, head, Sheet, sheet}
+use Rattle.sheet.specs.laws.WalkLaws.{records-from-chain}
+use Rattle.sheet.specs.declared.head.Head.{Head}
+
+-- what follows a head: the leaf of its operator and of the literals on the chain
+abbrev pub leafOf : List ℕ → Head → List ℕ → Res Sheet
+leafOf s h ns = do
+  leaf ← predicate (h .operator) (map (contentAt s) ns)
+  ok (record { head = record { column = h .column; transform = h .transform }; leaf = leaf })
+
+abbrev pub withChain : List ℕ → Head → Res Sheet
+withChain s h = do
+  ns ← recordsFrom (layout (h .column)) s 0
+  leafOf s h ns
+
+-- a head's lines, and what follows them
+through : {A B C D : Type 0} (a : Res A) (b : Res B) (y z : Bool) (f : A → B → C) (g : C → Res D) (k : A → B → Res D) → ((o : A) (h : B) → k o h ≡ g (f o h))
+    → (a >>= λ o. b >>= λ h. need y Malformed >> (need z Malformed >> k o h))
+    ≡ ((a >>= λ o. b >>= λ h. need y Malformed >> (need z Malformed >> ok (f o h))) >>= g)
+through (ok o) (ok h) true true f g k e = e o h
+through (ok o) (ok h) true false f g k e = refl
+through (ok o) (ok h) false z f g k e = refl
+through (ok o) (err d) y z f g k e = refl
+through (err d) b y z f g k e = refl
+
+bind-bind : {A B C : Type 0} (r : Res A) (f : A → Res B) (g : B → Res C) → (r >>= λ x. f x >>= g) ≡ ((r >>= f) >>= g)
+bind-bind (ok x) f g = refl
+bind-bind (err e) f g = refl
+
+module _ (s : List ℕ) where
+  literals-follow : {A : Type 0} (l : Layout) (g : List (List ℕ) → Res A)
+      → (chain 1 (nextIn s) (records (recordCount s - 1) (drop recordSize s)) >>= λ rs. each (content l) rs >>= g)
+      ≡ (recordsFrom l s 0 >>= λ ns. g (map (contentAt s) ns))
+  literals-follow l g =
+      bind-bind (chain 1 (nextIn s) (records (recordCount s - 1) (drop recordSize s))) (each (content l)) g
+      ∙ rw (next-here s 0) (ap (λ r. r >>= g) (records-from-chain l s 0))
+      ∙ sym (bind-bind (recordsFrom l s 0) (λ ns. ok (map (contentAt s) ns)) g)
+
+  after-size : (find operators (word 2 2 s) >>= λ o. head (word 4 1 s) (word 5 1 s) (word 8 4 s) >>= λ h.
+      need (zeroAt 6 2 s) Malformed >> (need (zeroAt 12 (recordSize - 12) s) Malformed >>
+      (chain 1 (nextIn s) (records (recordCount s - 1) (drop recordSize s)) >>= λ rs. each (content (layout (h .column))) rs >>= λ ls.
+      predicate o ls >>= λ leaf. ok (record { head = h; leaf = leaf }))))
+      ≡ (headIn s >>= withChain s)
+  unfolding headIn
+  after-size =
+      through (find operators (word 2 2 s)) (head (word 4 1 s) (word 5 1 s) (word 8 4 s)) (zeroAt 6 2 s) (zeroAt 12 (recordSize - 12) s) _ (withChain s) _
+      (λ o h. literals-follow (layout (h .column)) _)
+
+  pub sheet-steps : (most : ℕ) → sheet most s
+      ≡ (need (ltb 0 (length s)) Malformed >> (need (eqb (length s % recordSize) 0) Malformed >>
+      (need (leb (length s) (recordSize * suc most)) Malformed >> (headIn s >>= withChain s))))
+  unfolding sheet
+  sheet-steps most =
+      ap (λ r. need (ltb 0 (length s)) Malformed >> (need (eqb (length s % recordSize) 0) Malformed >>
+      (need (leb (length s) (recordSize * suc most)) Malformed >> r))) after-size
+
+-- ---- an operator with as many literals as it takes
+
+-- a predicate of the operator and the literals
+pub record Made {A : Type 0} (o : PredicateOperator) (ls : List A) : Type 0 where
+  pub leaf : Predicate A
+  pub made : predicate o ls ≡ ok leaf
+  pub operator : operatorIn leaf ≡ o
+  pub literals : literalsIn leaf ≡ ls
+
+module _ {A : Type 0} (o : PredicateOperator) where
+  made-of : (a : Operator) → byArity o ≡ a → (ls : List A) → takes a (length ls) ≡ true → Made o ls
+  made-of (none u) e [] t = record { leaf = unary u; made = rw e; operator = sym (ap operatorOf e) ∙ operator-of o; literals = refl }
+  made-of (none u) e (l ∷ ls) t = clash t (ne-eqb (suc (length ls)) 0 (λ d. omega arith))
+  made-of (one b) e [] t = clash t refl
+  made-of (one b) e (l ∷ []) t = record { leaf = test (binary b l); made = rw e; operator = sym (ap operatorOf e) ∙ operator-of o; literals = refl }
+  made-of (one b) e (l ∷ k ∷ ls) t = clash t (ne-eqb (suc (suc (length ls))) 1 (λ d. omega arith))
+  made-of (many m) e ls t = record { leaf = test (set m ls); made = rw e; operator = sym (ap operatorOf e) ∙ operator-of o; literals = refl }
+
+  pub predicate-made : (ls : List A) → takes (byArity o) (length ls) ≡ true → Made o ls
+  predicate-made ls t = made-of (byArity o) refl ls t
+
+  refused-of : (a : Operator) (ls : List A) → takes a (length ls) ≡ false → withLiterals a ls ≡ err Malformed
+  refused-of (none u) [] t = clash refl t
+  refused-of (none u) (l ∷ ls) t = refl
+  refused-of (one b) [] t = refl
+  refused-of (one b) (l ∷ []) t = clash refl t
+  refused-of (one b) (l ∷ k ∷ ls) t = refl
+  refused-of (many m) ls t = clash refl t
+
+  pub predicate-refused : (ls : List A) → takes (byArity o) (length ls) ≡ false → predicate o ls ≡ err Malformed
+  predicate-refused ls t = refused-of (byArity o) ls t

@@ -1,0 +1,3 @@
+-- What the enums and the arrays of the code of `values` mean, as the definitions have it.
+pub mod TypeResults
+pub mod Utf8Rests
