@@ -10,9 +10,10 @@ use Rattle.projection.specs.Steps.{Projected}
 use Rattle.projection.specs.declared.question.Question.{Question}
 use Rattle.sheet.specs.Records.{recordSize, value}
 use Rattle.sheet.specs.Sheets.{head, sheet, projectLimit}
-use Rattle.answers.specs.Answers.{projectedLeaf, transformedRow, answerOf, leftOf}
+use Rattle.answers.specs.Answers.{projectedLeaf, transformedRow, asResult, answerOf, leftOf}
 use Rattle.answers.specs.declared.answer.Answer.{Answer}
 use Rattle.answers.specs.declared.answer.Answer.the-variants.{BufferTooSmall}
+use Rattle.write.specs.Written.{sheetBuffer}
 
 -- ---- what is answered
 
@@ -39,3 +40,18 @@ answered size out r = cond (ltb (length out) size) BufferTooSmall (answerOf r)
 
 abbrev pub leftIn : ℕ → List ℕ → Res (Projected (List ℕ)) → List ℕ
 leftIn size out r = cond (ltb (length out) size) out (leftOf out r)
+
+-- ---- the contracts: what each routine answers, and what it leaves in the buffer, for all bytes
+module _ (question : Question) (s out : List ℕ) where
+  abbrev pub projectAnswer : Answer
+  projectAnswer = answered sheetBuffer out (projectSheet question s)
+
+  abbrev pub projectLeaves : List ℕ
+  projectLeaves = leftIn sheetBuffer out (projectSheet question s)
+
+module _ (type transform width : ℕ) (v out : List ℕ) where
+  abbrev pub transformAnswer : Answer
+  transformAnswer = answered valueBuffer out (asResult (transformValue type transform width v))
+
+  abbrev pub transformLeaves : List ℕ
+  transformLeaves = leftIn valueBuffer out (asResult (transformValue type transform width v))

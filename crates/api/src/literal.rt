@@ -7,8 +7,7 @@ use values::datatypes::TypeResult;
 use values::transform::Transform;
 use values::transform::TransformResult;
 ghost use mathlib.Core.Path.{_≡_};
-ghost use Rattle.answers.specs.Answers.{asResult};
-ghost use Rattle.api.specs.Routines.{transformValue, valueBuffer, answered, leftIn};
+ghost use Rattle.api.specs.Routines.{transformAnswer, transformLeaves};
 
 // The record of a value's partition value, written to the start of `out`: 2, then 3, then what the value is answered.
 pub fn transform_literal(
@@ -18,8 +17,8 @@ pub fn transform_literal(
     value: &[u8],
     out: &mut [u8],
 ) -> Answer
-    ensures number { λ r. ⌜ r ≡ answered valueBuffer (now (out .entry)) (asResult (transformValue «column_type» transform width (now (value .entry)))) ⌝ }
-    ensures buffer { λ _. ⌜ now (out .exit) ≡ leftIn valueBuffer (now (out .entry)) (asResult (transformValue «column_type» transform width (now (value .entry)))) ⌝ }
+    ensures number { λ r. ⌜ r ≡ transformAnswer «column_type» transform width (now (value .entry)) (now (out .entry)) ⌝ }
+    ensures buffer { λ _. ⌜ now (out .exit) ≡ transformLeaves «column_type» transform width (now (value .entry)) (now (out .entry)) ⌝ }
 {
     if out.len() < RECORD_SIZE {
         return Answer::BufferTooSmall;

@@ -9,16 +9,15 @@ use sheet::sheet::SheetResult;
 use sheet::sheet::read_sheet;
 ghost use mathlib.Core.Path.{_≡_};
 ghost use Rattle.projection.specs.declared.question.Question.the-variants.{Inclusive, Strict};
-ghost use Rattle.write.specs.Written.{sheetBuffer};
-ghost use Rattle.api.specs.Routines.{projectSheet, answered, leftIn};
+ghost use Rattle.api.specs.Routines.{projectAnswer, projectLeaves};
 
 // The bytes of the longest answer sheet.
 pub const SHEET_BUFFER: usize = RECORD_SIZE * (HOLDS_LIMIT + 1);
 
 // The answer sheet of a sheet, written to the start of `out`: 2, then 3, then what the leaf is answered.
 fn project_sheet(question: Question, sheet: &[u8], out: &mut [u8]) -> Answer
-    ensures number { λ r. ⌜ r ≡ answered sheetBuffer (now (out .entry)) (projectSheet question (now (sheet .entry))) ⌝ }
-    ensures buffer { λ _. ⌜ now (out .exit) ≡ leftIn sheetBuffer (now (out .entry)) (projectSheet question (now (sheet .entry))) ⌝ }
+    ensures number { λ r. ⌜ r ≡ projectAnswer question (now (sheet .entry)) (now (out .entry)) ⌝ }
+    ensures buffer { λ _. ⌜ now (out .exit) ≡ projectLeaves question (now (sheet .entry)) (now (out .entry)) ⌝ }
 {
     if out.len() < SHEET_BUFFER {
         return Answer::BufferTooSmall;
@@ -34,16 +33,16 @@ fn project_sheet(question: Question, sheet: &[u8], out: &mut [u8]) -> Answer
 
 // Which partition values may have a row that meets the sheet's leaf.
 pub fn project(sheet: &[u8], out: &mut [u8]) -> Answer
-    ensures number { λ r. ⌜ r ≡ answered sheetBuffer (now (out .entry)) (projectSheet Inclusive (now (sheet .entry))) ⌝ }
-    ensures buffer { λ _. ⌜ now (out .exit) ≡ leftIn sheetBuffer (now (out .entry)) (projectSheet Inclusive (now (sheet .entry))) ⌝ }
+    ensures number { λ r. ⌜ r ≡ projectAnswer Inclusive (now (sheet .entry)) (now (out .entry)) ⌝ }
+    ensures buffer { λ _. ⌜ now (out .exit) ≡ projectLeaves Inclusive (now (sheet .entry)) (now (out .entry)) ⌝ }
 {
     project_sheet(Question::Inclusive, sheet, out)
 }
 
 // Which partition values have only rows that meet the sheet's leaf.
 pub fn strict_project(sheet: &[u8], out: &mut [u8]) -> Answer
-    ensures number { λ r. ⌜ r ≡ answered sheetBuffer (now (out .entry)) (projectSheet Strict (now (sheet .entry))) ⌝ }
-    ensures buffer { λ _. ⌜ now (out .exit) ≡ leftIn sheetBuffer (now (out .entry)) (projectSheet Strict (now (sheet .entry))) ⌝ }
+    ensures number { λ r. ⌜ r ≡ projectAnswer Strict (now (sheet .entry)) (now (out .entry)) ⌝ }
+    ensures buffer { λ _. ⌜ now (out .exit) ≡ projectLeaves Strict (now (sheet .entry)) (now (out .entry)) ⌝ }
 {
     project_sheet(Question::Strict, sheet, out)
 }

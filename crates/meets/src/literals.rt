@@ -14,8 +14,8 @@ ghost use Rattle.values.specs.Ascending.{elem};
 ghost use Rattle.values.specs.Order.{compareNumbers, compareBytes};
 ghost use Rattle.values.specs.Types.{layout};
 ghost use Rattle.expr.specs.Operators.{byArity};
-ghost use Rattle.expr.specs.Holds.{numberTests, bytesTests, missingMeets};
-ghost use Rattle.meets.specs.code.HeldAnswers.{presentHeld};
+ghost use Rattle.expr.specs.Holds.{missingMeets};
+ghost use Rattle.meets.specs.code.HeldAnswers.{numberMeets, bytesMeets};
 ghost use Rattle.sheet.specs.code.ReadAnswers.{Placed, contentsAt, numbersAt};
 
 // Whether a number equals one of the literals in the first count records.
@@ -64,7 +64,7 @@ pub fn missing_holds(operator: PredicateOperator) -> bool
 // Whether a present number meets an operator with those literals.
 pub fn number_holds(x: Sheet, s: &[u8], records: &[u16], v: i64) -> bool
     requires { ⌜ Placed (layout (x .head .column)) (now s) (now records) (x .count) ⌝ }
-    ensures { λ r. ⌜ r ≡ presentHeld numberTests (byArity (x .head .operator)) (numbersAt (layout (x .head .column)) (now (s .entry)) (now (records .entry)) (x .count)) v ⌝ }
+    ensures { λ r. ⌜ r ≡ numberMeets x (now (s .entry)) (now (records .entry)) v ⌝ }
 {
     let head = x.head;
     let operator = head.operator;
@@ -90,7 +90,7 @@ pub fn number_holds(x: Sheet, s: &[u8], records: &[u16], v: i64) -> bool
 // Whether a present byte string meets an operator with those literals.
 pub fn bytes_holds(x: Sheet, s: &[u8], records: &[u16], v: &[u8]) -> bool
     requires { ⌜ Placed (layout (x .head .column)) (now s) (now records) (x .count) ⌝ }
-    ensures { λ r. ⌜ r ≡ presentHeld bytesTests (byArity (x .head .operator)) (contentsAt (now (s .entry)) (now (records .entry)) (x .count)) (now (v .entry)) ⌝ }
+    ensures { λ r. ⌜ r ≡ bytesMeets x (now (s .entry)) (now (records .entry)) (now (v .entry)) ⌝ }
 {
     let head = x.head;
     let operator = head.operator;

@@ -17,15 +17,11 @@ ghost use mathlib.Core.Bool.{true};
 ghost use lib.ListN.{length};
 ghost use Rattle.values.specs.Outcomes.{ok};
 ghost use Rattle.values.specs.Types.{layout, fits};
-ghost use Rattle.values.specs.declared.datatypes.PrimitiveType.the-variants.{String};
-ghost use Rattle.expr.specs.Operators.{byArity};
-ghost use Rattle.expr.specs.Holds.{bytesTests};
-ghost use Rattle.meets.specs.code.HeldAnswers.{held, numbersHeld, bytesHeld};
 ghost use Rattle.sheet.specs.code.Contents.{NumberType};
 ghost use Rattle.values.specs.Outcomes.{row};
-ghost use Rattle.sheet.specs.code.ReadAnswers.{Placed, contentsAt};
+ghost use Rattle.sheet.specs.code.ReadAnswers.{Placed};
 ghost use Rattle.meets.specs.Tested.{heldAs};
-ghost use Rattle.meets.specs.code.HeldAnswers.{heldOf, valueHeld};
+ghost use Rattle.meets.specs.code.HeldAnswers.{numberRowMeets, bytesRowMeets, stringRowMeets, rowMeets, valueMeets};
 
 // A test that was made, as the answer.
 fn answered(yes: bool) -> Held
@@ -38,7 +34,7 @@ fn answered(yes: bool) -> Held
 fn test_number(x: Sheet, s: &[u8], records: &[u16], present: bool, value: &[u8]) -> Held
     requires { ⌜ Placed (layout (x .head .column)) (now s) (now records) (x .count) ⌝ }
     requires { ⌜ (present ≡ true → NumberType (x .head .column) (length (now value))) ⌝ }
-    ensures { λ r. ⌜ r ≡ heldAs (ok (numbersHeld (layout (x .head .column)) (byArity (x .head .operator)) (contentsAt (now (s .entry)) (now (records .entry)) (x .count)) (row present (now (value .entry))))) ⌝ }
+    ensures { λ r. ⌜ r ≡ heldAs (ok (numberRowMeets x (now (s .entry)) (now (records .entry)) (row present (now (value .entry))))) ⌝ }
 {
     let head = x.head;
     let operator = head.operator;
@@ -52,7 +48,7 @@ fn test_number(x: Sheet, s: &[u8], records: &[u16], present: bool, value: &[u8])
 // The same for a byte string.
 fn test_bytes(x: Sheet, s: &[u8], records: &[u16], present: bool, value: &[u8]) -> Held
     requires { ⌜ Placed (layout (x .head .column)) (now s) (now records) (x .count) ⌝ }
-    ensures { λ r. ⌜ r ≡ heldAs (ok (held bytesTests (byArity (x .head .operator)) (contentsAt (now (s .entry)) (now (records .entry)) (x .count)) (row present (now (value .entry))))) ⌝ }
+    ensures { λ r. ⌜ r ≡ heldAs (ok (bytesRowMeets x (now (s .entry)) (now (records .entry)) (row present (now (value .entry))))) ⌝ }
 {
     let head = x.head;
     let operator = head.operator;
@@ -67,7 +63,7 @@ fn test_bytes(x: Sheet, s: &[u8], records: &[u16], present: bool, value: &[u8]) 
 // The same for a String, whose literals are to be UTF-8, and then its value.
 fn test_string(x: Sheet, s: &[u8], records: &[u16], present: bool, value: &[u8]) -> Held
     requires { ⌜ Placed (layout (x .head .column)) (now s) (now records) (x .count) ⌝ }
-    ensures { λ r. ⌜ r ≡ heldAs (bytesHeld String (byArity (x .head .operator)) (contentsAt (now (s .entry)) (now (records .entry)) (x .count)) (row present (now (value .entry)))) ⌝ }
+    ensures { λ r. ⌜ r ≡ heldAs (stringRowMeets x (now (s .entry)) (now (records .entry)) (row present (now (value .entry)))) ⌝ }
 {
     let head = x.head;
     let column = head.column;
@@ -84,7 +80,7 @@ fn test_string(x: Sheet, s: &[u8], records: &[u16], present: bool, value: &[u8])
 fn test_row(x: Sheet, s: &[u8], records: &[u16], present: bool, value: &[u8]) -> Held
     requires { ⌜ Placed (layout (x .head .column)) (now s) (now records) (x .count) ⌝ }
     requires { ⌜ (present ≡ true → fits (layout (x .head .column)) (length (now value)) ≡ true) ⌝ }
-    ensures { λ r. ⌜ r ≡ heldAs (heldOf (x .head .column) (byArity (x .head .operator)) (contentsAt (now (s .entry)) (now (records .entry)) (x .count)) (row present (now (value .entry)))) ⌝ }
+    ensures { λ r. ⌜ r ≡ heldAs (rowMeets x (now (s .entry)) (now (records .entry)) (row present (now (value .entry)))) ⌝ }
 {
     let head = x.head;
     let column = head.column;
@@ -100,7 +96,7 @@ fn test_row(x: Sheet, s: &[u8], records: &[u16], present: bool, value: &[u8]) ->
 // The same for the value in a record.
 pub fn test_value(x: Sheet, s: &[u8], records: &[u16], value: &[u8]) -> Held
     requires { ⌜ Placed (layout (x .head .column)) (now s) (now records) (x .count) ⌝ }
-    ensures { λ r. ⌜ r ≡ heldAs (valueHeld (x .head .column) (byArity (x .head .operator)) (contentsAt (now (s .entry)) (now (records .entry)) (x .count)) (now (value .entry))) ⌝ }
+    ensures { λ r. ⌜ r ≡ heldAs (valueMeets x (now (s .entry)) (now (records .entry)) (now (value .entry))) ⌝ }
 {
     let head = x.head;
     let column = head.column;

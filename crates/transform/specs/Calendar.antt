@@ -1,11 +1,12 @@
 -- Iceberg's Year and Month of a day, counted from 1970 and from January 1970. A day is counted from 1970-01-01. Assumes nothing.
 use Prim.Native.Nat.{ℕ, suc, _+_, _-_, _*_}
-use mathlib.Core.Bool.{Bool, _&&_}
+use mathlib.Core.Bool.{Bool, true, _&&_}
+use mathlib.Core.Logic.{_↔_}
 use mathlib.Core.Path.{_≡_, refl}
 use lib.IntN.{ℤ, pos, negsuc, negℤ, _+ℤ_, _-ℤ_, _*ℤ_}
-use lib.Signed.{leZ}
+use lib.Signed.{leZ, _≤ℤ_, _<ℤ_}
 use Rattle.transform.specs.Count.{before, countOff}
-use Rattle.transform.specs.Gregorian.{leap, yearLength, monthLength, cycleYear, cycleDay, yearAt, monthIn}
+use Rattle.transform.specs.Gregorian.{leap, yearLength, monthLength, firstDay, firstOfMonth, cycleYear, cycleDay, yearAt, monthIn}
 
 -- 01: "The calendar runs from day −96465292 to 95026236 (years −262143 to 262142)"
 abbrev pub firstCalendarDay : ℤ
@@ -43,6 +44,23 @@ yearOf d = civilYear d -ℤ pos 1970
 
 unfoldable pub monthOf : ℤ → ℤ
 monthOf d = yearOf d *ℤ pos 12 +ℤ pos (civilMonth d)
+
+-- what they mean: a day of the calendar lies in a year, and in a month, from its first day on up to the first day of the next. First days by the counts
+-- from 1970 and from January 1970 (`CalendarLaws.year-means`, `month-means`)
+abbrev pub yearsTo1970 : ℕ
+yearsTo1970 = yearsBack + 1970
+
+unfoldable pub firstDayOfYear : ℤ → ℤ
+firstDayOfYear y = pos (firstDay (shift yearsTo1970 y)) -ℤ pos daysBack
+
+unfoldable pub firstDayOfMonth : ℤ → ℤ
+firstDayOfMonth m = pos (firstOfMonth (shift (12 * yearsTo1970) m)) -ℤ pos daysBack
+
+abbrev pub YearMeans : Type 0
+YearMeans = (d y : ℤ) → inCalendar d ≡ true → (yearOf d ≡ y) ↔ ((firstDayOfYear y ≤ℤ d) × (d <ℤ firstDayOfYear (y +ℤ pos 1)))
+
+abbrev pub MonthMeans : Type 0
+MonthMeans = (d m : ℤ) → inCalendar d ≡ true → (monthOf d ≡ m) ↔ ((firstDayOfMonth m ≤ℤ d) × (d <ℤ firstDayOfMonth (m +ℤ pos 1)))
 
 -- 29 February 2000 is day 11016
 leap-day : (civilYear (pos 11016) ≡ pos 2000) × (civilMonth (pos 11016) ≡ 1)

@@ -3,7 +3,6 @@ pub mod Floor
 pub mod Count
 pub mod Gregorian
 pub mod Calendar
-pub mod CalendarDays
 pub mod Temporal
 pub mod Truncate
 pub mod code

@@ -5,17 +5,16 @@ use api::project::project;
 use api::project::strict_project;
 ghost use mathlib.Core.Path.{_≡_};
 ghost use Rattle.projection.specs.declared.question.Question.the-variants.{Inclusive, Strict};
-ghost use Rattle.answers.specs.Answers.{asResult, answerNumber, answerCount};
-ghost use Rattle.write.specs.Written.{sheetBuffer};
+ghost use Rattle.answers.specs.Answers.{answerNumber, answerCount};
 ghost use Rattle.meets.specs.Tested.{heldAs, heldNumber};
 ghost use Rattle.api.specs.HoldsTest.{holdsTest};
-ghost use Rattle.api.specs.Routines.{projectSheet, transformValue, valueBuffer, answered, leftIn};
+ghost use Rattle.api.specs.Routines.{projectAnswer, projectLeaves, transformAnswer, transformLeaves};
 
 #[no_mangle]
 pub extern "C" fn weighpick_project(sheet: &[u8], out: &mut [u8], count: &mut u64) -> u32
-    ensures number { λ r. ⌜ r ≡ answerNumber (answered sheetBuffer (now (out .entry)) (projectSheet Inclusive (now (sheet .entry)))) ⌝ }
-    ensures written { λ _. ⌜ now (count .exit) ≡ answerCount (answered sheetBuffer (now (out .entry)) (projectSheet Inclusive (now (sheet .entry)))) ⌝ }
-    ensures buffer { λ _. ⌜ now (out .exit) ≡ leftIn sheetBuffer (now (out .entry)) (projectSheet Inclusive (now (sheet .entry))) ⌝ }
+    ensures number { λ r. ⌜ r ≡ answerNumber (projectAnswer Inclusive (now (sheet .entry)) (now (out .entry))) ⌝ }
+    ensures written { λ _. ⌜ now (count .exit) ≡ answerCount (projectAnswer Inclusive (now (sheet .entry)) (now (out .entry))) ⌝ }
+    ensures buffer { λ _. ⌜ now (out .exit) ≡ projectLeaves Inclusive (now (sheet .entry)) (now (out .entry)) ⌝ }
 {
     let answer = project(sheet, out);
     *count = answer.count() as u64;
@@ -24,9 +23,9 @@ pub extern "C" fn weighpick_project(sheet: &[u8], out: &mut [u8], count: &mut u6
 
 #[no_mangle]
 pub extern "C" fn weighpick_strict_project(sheet: &[u8], out: &mut [u8], count: &mut u64) -> u32
-    ensures number { λ r. ⌜ r ≡ answerNumber (answered sheetBuffer (now (out .entry)) (projectSheet Strict (now (sheet .entry)))) ⌝ }
-    ensures written { λ _. ⌜ now (count .exit) ≡ answerCount (answered sheetBuffer (now (out .entry)) (projectSheet Strict (now (sheet .entry)))) ⌝ }
-    ensures buffer { λ _. ⌜ now (out .exit) ≡ leftIn sheetBuffer (now (out .entry)) (projectSheet Strict (now (sheet .entry))) ⌝ }
+    ensures number { λ r. ⌜ r ≡ answerNumber (projectAnswer Strict (now (sheet .entry)) (now (out .entry))) ⌝ }
+    ensures written { λ _. ⌜ now (count .exit) ≡ answerCount (projectAnswer Strict (now (sheet .entry)) (now (out .entry))) ⌝ }
+    ensures buffer { λ _. ⌜ now (out .exit) ≡ projectLeaves Strict (now (sheet .entry)) (now (out .entry)) ⌝ }
 {
     let answer = strict_project(sheet, out);
     *count = answer.count() as u64;
@@ -42,9 +41,9 @@ pub extern "C" fn weighpick_transform(
     out: &mut [u8],
     count: &mut u64,
 ) -> u32
-    ensures number { λ r. ⌜ r ≡ answerNumber (answered valueBuffer (now (out .entry)) (asResult (transformValue «column_type» transform width (now (value .entry))))) ⌝ }
-    ensures written { λ _. ⌜ now (count .exit) ≡ answerCount (answered valueBuffer (now (out .entry)) (asResult (transformValue «column_type» transform width (now (value .entry))))) ⌝ }
-    ensures buffer { λ _. ⌜ now (out .exit) ≡ leftIn valueBuffer (now (out .entry)) (asResult (transformValue «column_type» transform width (now (value .entry)))) ⌝ }
+    ensures number { λ r. ⌜ r ≡ answerNumber (transformAnswer «column_type» transform width (now (value .entry)) (now (out .entry))) ⌝ }
+    ensures written { λ _. ⌜ now (count .exit) ≡ answerCount (transformAnswer «column_type» transform width (now (value .entry)) (now (out .entry))) ⌝ }
+    ensures buffer { λ _. ⌜ now (out .exit) ≡ transformLeaves «column_type» transform width (now (value .entry)) (now (out .entry)) ⌝ }
 {
     let answer = transform_literal(column_type, transform, width, value, out);
     *count = answer.count() as u64;

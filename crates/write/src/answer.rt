@@ -19,6 +19,7 @@ ghost use Rattle.sheet.specs.code.ReadAnswers.{Parts, partsAt};
 ghost use Rattle.sheet.specs.Records.{recordSize};
 ghost use Rattle.sheet.specs.Sheets.{holdsLimit};
 ghost use Rattle.write.specs.Written.{literalRecords, answerBytes, numberBytes};
+ghost use Rattle.write.specs.code.Parts.{partRecords};
 
 // The head alone.
 pub fn put_no_literal(d: &mut [u8], operator: PredicateOperator, to: PrimitiveType)
@@ -107,7 +108,7 @@ fn put_string_records(d: &mut [u8], s: &[u8], sizes: &[u8], set: &[u16], n: usiz
     requires { ⌜ Parts (now s) (now sizes) (now set) n ⌝ }
     requires { ⌜ n ≤ holdsLimit ⌝ }
     requires { ⌜ recordSize * (n + 1) ≤ length (now d) ⌝ }
-    ensures { λ _. ⌜ now (d .exit) ≡ over recordSize (literalRecords 1 (partsAt (now (s .entry)) (now (sizes .entry)) (now (set .entry)) n)) (now (d .entry)) ⌝ }
+    ensures { λ _. ⌜ now (d .exit) ≡ over recordSize (partRecords (now (s .entry)) (now (sizes .entry)) (now (set .entry)) n) (now (d .entry)) ⌝ }
 {
     let mut i = 0;
     while i < n {

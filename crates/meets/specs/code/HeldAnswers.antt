@@ -2,16 +2,19 @@
 use Prim.Native.Nat.{ℕ}
 use mathlib.Core.Bool.{Bool, false, not, _||_}
 use mathlib.Core.List.{List, [], _∷_, map}
+use lib.IntN.{ℤ}
 use Rattle.values.specs.Outcomes.{Res, ok, need, _>>=_, _>>_, Row, missing, present}
 use Rattle.values.specs.Types.{Layout, number, layout, sameType}
 use Rattle.values.specs.declared.datatypes.PrimitiveType.{PrimitiveType}
 use Rattle.values.specs.declared.datatypes.PrimitiveType.the-variants.{String}
 use Rattle.values.specs.declared.error.ErrorKind.the-variants.{NotUtf8}
-use Rattle.expr.specs.Operators.{Operator, none, one, many}
+use Rattle.expr.specs.Operators.{Operator, none, one, many, byArity}
 use Rattle.expr.specs.Holds.{Tests, numberTests, bytesTests, missingMeets, unaryMeets, binaryMeets, setMeets}
 use Rattle.sheet.specs.Records.{value}
 use Rattle.sheet.specs.code.Contents.{allUtf8, rowUtf8, numberIn}
 use Rattle.sheet.specs.Values.{byLayout, mapRow}
+use Rattle.sheet.specs.code.ReadAnswers.{contentsAt, numbersAt}
+use Rattle.sheet.specs.declared.sheet.Sheet.{Sheet}
 
 -- a value against an operator's kind and literals, which for the other kinds are passed over
 abbrev pub presentHeld : {A : Type 0} → Tests A → Operator → List A → A → Bool
@@ -43,3 +46,35 @@ heldOf column a ls r = byLayout (layout column) (λ n. ok (numbersHeld (number n
 -- the same with the value as its record has it
 abbrev pub valueHeld : PrimitiveType → Operator → List (List ℕ) → List ℕ → Res Bool
 valueHeld column a ls v = value (layout column) v >>= heldOf column a ls
+
+-- ---- the same by a sheet that was read, and the records of its literals
+module _ (x : Sheet) (s records : List ℕ) where
+  abbrev operator : Operator
+  operator = byArity (x .head .operator)
+
+  abbrev contents : List (List ℕ)
+  contents = contentsAt s records (x .count)
+
+  -- of a present value
+  abbrev pub numberMeets : ℤ → Bool
+  numberMeets v = presentHeld numberTests operator (numbersAt (layout (x .head .column)) s records (x .count)) v
+
+  abbrev pub bytesMeets : List ℕ → Bool
+  bytesMeets v = presentHeld bytesTests operator contents v
+
+  -- of a row: numbers, byte strings, a String, and either kind
+  abbrev pub numberRowMeets : Row (List ℕ) → Bool
+  numberRowMeets r = numbersHeld (layout (x .head .column)) operator contents r
+
+  abbrev pub bytesRowMeets : Row (List ℕ) → Bool
+  bytesRowMeets r = held bytesTests operator contents r
+
+  abbrev pub stringRowMeets : Row (List ℕ) → Res Bool
+  stringRowMeets r = bytesHeld String operator contents r
+
+  abbrev pub rowMeets : Row (List ℕ) → Res Bool
+  rowMeets r = heldOf (x .head .column) operator contents r
+
+  -- of a value's record
+  abbrev pub valueMeets : List ℕ → Res Bool
+  valueMeets v = valueHeld (x .head .column) operator contents v

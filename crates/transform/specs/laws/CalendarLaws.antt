@@ -12,7 +12,7 @@ use Rattle.transform.specs.laws.CountLaws.{Lies, lies-only}
 use Rattle.transform.specs.Gregorian.{leap, yearLength, monthLength, lengthOfMonth, firstDay, cycleYear, cycleDay, yearAt, monthIn, monthAt}
 use Rattle.transform.specs.laws.GregorianLaws.{firstDay-cycles, year-lies, year-mono, month-lies, month-mono}
 use Rattle.transform.specs.Calendar.{firstCalendarDay, lastCalendarDay, inCalendar, yearsBack, daysBack, shift, civilYear, civilMonth, yearOf, monthOf}
-use Rattle.transform.specs.CalendarDays.{yearsTo1970, firstDayOfYear, firstDayOfMonth}
+use Rattle.transform.specs.Calendar.{yearsTo1970, firstDayOfYear, firstDayOfMonth, YearMeans, MonthMeans}
 
 -- ---- the calendar's days
 
@@ -143,10 +143,10 @@ module _ (len : ℕ → ℕ) (back at : ℕ) (d z : ℤ) (h : inCalendar d ≡ t
   exactly : (pos at -ℤ pos back ≡ z) ↔ ((first z ≤ℤ d) × (d <ℤ first (z +ℤ pos 1)))
   exactly = (starts, λ r. ends (r .0) (r .1))
 
-pub yearOf-exactly : (d y : ℤ) → inCalendar d ≡ true → (yearOf d ≡ y) ↔ ((firstDayOfYear y ≤ℤ d) × (d <ℤ firstDayOfYear (y +ℤ pos 1)))
+pub year-means : YearMeans
 unfolding firstDayOfYear
-yearOf-exactly d y h = rw (yearOf-is d) (exactly yearLength yearsTo1970 _ d y h (year-lies _))
+year-means d y h = rw (yearOf-is d) (exactly yearLength yearsTo1970 _ d y h (year-lies _))
 
-pub monthOf-exactly : (d m : ℤ) → inCalendar d ≡ true → (monthOf d ≡ m) ↔ ((firstDayOfMonth m ≤ℤ d) × (d <ℤ firstDayOfMonth (m +ℤ pos 1)))
+pub month-means : MonthMeans
 unfolding firstDayOfMonth
-monthOf-exactly d m h = rw (monthOf-is d) (exactly lengthOfMonth (12 * yearsTo1970) _ d m h (month-lies _))
+month-means d m h = rw (monthOf-is d) (exactly lengthOfMonth (12 * yearsTo1970) _ d m h (month-lies _))
