@@ -12,6 +12,9 @@
 #ifndef WEIGHPICK_H
 #define WEIGHPICK_H
 
+/* The version; bindings/rust/Cargo.toml has the same, and CHANGELOG.md says what it has. */
+#define WEIGHPICK_VERSION "0.1.0"
+
 #include <stddef.h>
 #include <stdint.h>
 

@@ -1,4 +1,4 @@
-//! The C header has the same numbers.
+//! The C header has the same numbers, and the same version.
 
 use weighpick::sheet::{
     ANSWER_LITERALS, CONTENT, LARGEST_SHEET, LITERALS, RECORD, SHEET_BUFFER, VALUE_BUFFER,
@@ -28,6 +28,12 @@ fn c_name(variant: impl std::fmt::Debug) -> String {
         name.push(letter.to_ascii_uppercase());
     }
     name
+}
+
+#[test]
+fn version() {
+    let line = format!("#define WEIGHPICK_VERSION \"{}\"", env!("CARGO_PKG_VERSION"));
+    assert!(HEADER.lines().any(|l| l == line), "{line}");
 }
 
 #[test]
