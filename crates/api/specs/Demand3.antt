@@ -7,6 +7,7 @@ use mathlib.Core.Path.{_≡_}
 use lib.IntN.{ℤ, pos, sucℤ}
 use lib.Signed.{_<ℤ_}
 use Rattle.values.specs.Outcomes.{ok}
+use Rattle.values.specs.laws.WordLaws.{AllBytes}
 use Rattle.values.specs.Words.{signed, word}
 use Rattle.projection.specs.Lifting.{lifted}
 use Rattle.projection.specs.Steps.{some}
@@ -41,11 +42,12 @@ module _ (s : List ℕ) where
   abbrev pub RowOf : List ℕ → List ℕ → Type 0
   RowOf p v = transformValue (typeIn s) (transformIn s) (widthIn s) v ≡ ok p
 
+  -- rows that are there, or that are asked for, are bytes; what is said below of every row is said of every list of numbers
   abbrev pub SomeRow : List ℕ → Type 0
-  SomeRow p = (v : List ℕ) × RowOf p v × Accepts s v
+  SomeRow p = (v : List ℕ) × AllBytes v × RowOf p v × Accepts s v
 
   abbrev pub AllRows : List ℕ → Type 0
-  AllRows p = (v : List ℕ) → RowOf p v → Accepts s v
+  AllRows p = (v : List ℕ) → AllBytes v → RowOf p v → Accepts s v
 
 -- ---- "whatever the leaf, the column's type, the transform and its width, and whatever value a row holds"
 
@@ -69,8 +71,8 @@ abbrev pub StrictIsExact : Type 0
 StrictIsExact = (s q v p : List ℕ) → Numeric s → RowOf s p v → Returns Strict s q → Accepts q p ↔ AllRows s p
 
 -- the value record p holds the number z in four bytes, as the result types of what is lifted do
-abbrev pub Holds : List ℕ → ℤ → Type 0
-Holds p z = (lengthIn p ≡ 4) × (signed 4 (word headerSize 4 p) ≡ z)
+abbrev pub HoldsNumber : List ℕ → ℤ → Type 0
+HoldsNumber p z = (lengthIn p ≡ 4) × (signed 4 (word headerSize 4 p) ≡ z)
 
 -- "for transforms that document 01 lifts"
 abbrev pub Lifts : List ℕ → Type 0
@@ -78,7 +80,7 @@ Lifts s = (h : Head) × (head (typeIn s) (transformIn s) (widthIn s) ≡ ok h) �
 
 -- "when it is one above a negative partition value of which some row meets the leaf"; 01: "one above is the number plus 1"
 abbrev pub OneAbove : List ℕ → List ℕ → Type 0
-OneAbove s p = (below : List ℕ) × (z : ℤ) × Holds below z × (z <ℤ pos 0) × Holds p (sucℤ z) × SomeRow s below
+OneAbove s p = (below : List ℕ) × AllBytes below × (z : ℤ) × HoldsNumber below z × (z <ℤ pos 0) × HoldsNumber p (sucℤ z) × SomeRow s below
 
 -- "An inclusive one accepts it exactly when some row of it meets the leaf, or, for transforms that document 01 lifts, when it is one above .."
 abbrev pub InclusiveIsExact : Type 0

@@ -122,17 +122,14 @@ module _ (s q v p : List ℕ) (h : RowOf s p v) where
       let over = bytes-strict-is-safe (b .column) (b .transform) (a .leaf) (a .predicate) (literals-held b) (a .project-is) in
       rows.strict-is-safe a (bytesLaw b) v p h (λ r y good e m. over r y (row-held b r good) e m) met
 
--- ---- the four clauses. For numbers nothing is lost, since what is returned is exact
+-- ---- the four clauses
 no-row-lost : NoRowLost
 no-row-lost s q v p h met r =
-    ⊎-elim
-    (λ b. exact.inclusive-is-exact (b .is) s q v p (b .answer) h .1 (inl (v, h, met)))
-    (λ b. bytes-kept s q v p h b met)
-    (by-kind Inclusive s q r)
+    ⊎-elim (λ b. exact.no-row-lost (b .is) s q v p h (b .answer) met) (λ b. bytes-kept s q v p h b met) (by-kind Inclusive s q r)
 
 strict-is-safe : StrictIsSafe
 strict-is-safe s q v p h r met =
-    ⊎-elim (λ b. exact.strict-is-exact (b .is) s q v p (b .answer) h .0 met v h) (λ b. bytes-safe s q v p h b met) (by-kind Strict s q r)
+    ⊎-elim (λ b. exact.strict-is-safe (b .is) s q v p h (b .answer) met) (λ b. bytes-safe s q v p h b met) (by-kind Strict s q r)
 
 strict-is-exact : StrictIsExact
 strict-is-exact s q v p numeric h r =

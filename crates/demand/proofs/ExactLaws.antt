@@ -22,11 +22,13 @@ use Rattle.projection.specs.declared.question.Question.{Question}
 use Rattle.projection.specs.declared.question.Question.the-variants.{Inclusive, Strict}
 use Rattle.sheet.specs.Sheets.{Head}
 use Rattle.write.specs.Written.{valueRecord, numberBytes}
-use Rattle.api.specs.Demand3.{RowOf, Accepts, SomeRow, AllRows, Holds, Lifts, OneAbove}
+use Rattle.api.specs.Demand3.{RowOf, Accepts, SomeRow, AllRows, HoldsNumber, Lifts, OneAbove}
 use Rattle.answers.specs.Kinds.{numbers}
 use Rattle.sheet.specs.Values.{mapRow}
 use Rattle.demand.proofs.KindLaws.{KindLaws, Returned}
+use Rattle.demand.proofs.RecordBytes.{record-bytes}
 use Rattle.demand.proofs.NumberKindLaws.{InType, lifted-four, number-row-starts, number-kind}
+use Rattle.demand.proofs.KindRowLaws as rows
 use Rattle.demand.proofs.KindRowLaws.{reading, Part, part-of, good-part, meets-predicate, same-part, some-row, all-rows, row-some, rows-all}
 
 -- ---- value records of four bytes
@@ -34,11 +36,11 @@ module _ (to : PrimitiveType) (four : layout to ≡ number 4) where
   abbrev recordOf : Row ℤ → List ℕ
   recordOf y = valueRecord (mapRow (λ z. numberBytes (layout to) z) y)
 
-  holds-number : (z : ℤ) → InType to z → Holds (recordOf (present z)) z
+  holds-number : (z : ℤ) → InType to z → HoldsNumber (recordOf (present z)) z
   unfolding inType
   holds-number z h = rw four (refl, signed-bytes 4 z (rw four at h))
 
-  number-held : (y : Row ℤ) (z : ℤ) → OfPresent (InType to) y → Holds (recordOf y) z → y ≡ present z
+  number-held : (y : Row ℤ) (z : ℤ) → OfPresent (InType to) y → HoldsNumber (recordOf y) z → y ≡ present z
   number-held missing z h k = let no : ⊥ = omega (arith, k .0) in absurd no
   number-held (present x) z h k = ap present (sym (holds-number x h .1) ∙ k .1)
 
@@ -73,11 +75,12 @@ module _ {column : PrimitiveType} {transform : Transform} {n : ℕ} (is : layout
         let here = subst (OfPresent (InType to)) (f .1) (good-part a law v p m) in
         let same : recordOf to four (present (sucℤ z)) ≡ p = ap (recordOf to four) (sym (f .1)) ∙ m .bytes-is in (
           recordOf to four (present z),
+          record-bytes to (present z),
           z,
           holds-number to four z below,
           f .2,
-          subst (λ b. Holds b (sucℤ z)) same (holds-number to four (sucℤ z) here),
-          some-row a law starts (present z) (f .3),
+          subst (λ b. HoldsNumber b (sucℤ z)) same (holds-number to four (sucℤ z) here),
+          some-row a law starts (record-bytes column) (present z) (f .3),
         )
 
     above-one : (v p : List ℕ) (m : Part a law v p) → lifted column transform ≡ true → OneAbove s p
@@ -85,10 +88,10 @@ module _ {column : PrimitiveType} {transform : Transform} {n : ℕ} (is : layout
     unfolding number-kind
     above-one v p m h f =
         let four = lifted-four column to transform (a .result-is) h in
-        let z = f .1 in
-        let held : (u b : List ℕ) (k : Part a law u b) (x : ℤ) → Holds b x → k .part ≡ present x
-        = λ u b k x i. number-held to four (k .part) x (good-part a law u b k) (subst (λ c. Holds c x) (sym (k .bytes-is)) i) in
-        (z, held v p m (sucℤ z) (f .4), f .3, row-some a law (present z) (f .0) (λ u k. held u (f .0) k z (f .2)) (f .5))
+        let z = f .2 in
+        let held : (u b : List ℕ) (k : Part a law u b) (x : ℤ) → HoldsNumber b x → k .part ≡ present x
+        = λ u b k x i. number-held to four (k .part) x (good-part a law u b k) (subst (λ c. HoldsNumber c x) (sym (k .bytes-is)) i) in
+        (z, held v p m (sucℤ z) (f .5), f .4, row-some a law (present z) (f .0) (λ u k. held u (f .0) k z (f .3)) (f .6))
 
   -- ---- exactness
   pub strict-is-exact : (s q v p : List ℕ) → Returned (numbers column transform n) column transform Strict s q → RowOf s p v
@@ -100,7 +103,7 @@ module _ {column : PrimitiveType} {transform : Transform} {n : ℕ} (is : layout
       let f = numbers-strict-exact column transform (a .leaf) (a .predicate) (a .project-is) (m .row) (m .part) (m .part-is) in
       let met = meets-predicate a by v p m in (
         λ k. rows-all a by (m .part) p (λ u k. same-part a by u v p k m) (f .0 (met .0 k)),
-        λ k. met .1 (f .1 (all-rows a by (starts Strict s q a) (m .part) (subst (AllRows s) (sym (m .bytes-is)) k))),
+        λ k. met .1 (f .1 (all-rows a by (starts Strict s q a) (record-bytes column) (m .part) (subst (AllRows s) (sym (m .bytes-is)) k))),
       )
 
   pub inclusive-is-exact : (s q v p : List ℕ) → Returned (numbers column transform n) column transform Inclusive s q → RowOf s p v
@@ -113,7 +116,7 @@ module _ {column : PrimitiveType} {transform : Transform} {n : ℕ} (is : layout
       let met = meets-predicate a by v p m in
       let up = lifts Inclusive s q a in (
         λ k. ⊎-elim
-            (λ x. inl (subst (SomeRow s) (m .bytes-is) (some-row a by (starts Inclusive s q a) (m .part) x)))
+            (λ x. inl (subst (SomeRow s) (m .bytes-is) (some-row a by (starts Inclusive s q a) (record-bytes column) (m .part) x)))
             (λ x. inr (up .1 (x .0), one-above Inclusive s q a v p m (x .0) (x .1)))
             (f .0 (met .0 k)),
         λ k. met .1 (f .1 (⊎-elim
@@ -121,3 +124,17 @@ module _ {column : PrimitiveType} {transform : Transform} {n : ℕ} (is : layout
             (λ x. inr (up .0 (x .0), above-one Inclusive s q a v p m (up .0 (x .0)) (x .1)))
             k)),
       )
+
+  -- ---- nothing is lost, of any list of numbers that is a row
+  module _ (s q v p : List ℕ) (h : RowOf s p v) where
+    pub no-row-lost : Returned (numbers column transform n) column transform Inclusive s q → Accepts s v → Accepts q p
+    unfolding number-kind
+    no-row-lost a met =
+        let over = numbers-inclusive-exact column transform (a .leaf) (a .predicate) (a .project-is) in
+        rows.no-row-lost a (law Inclusive s q a) v p h (λ r y good e m. over r y e .1 (inl (r, e, m))) met
+
+    pub strict-is-safe : Returned (numbers column transform n) column transform Strict s q → Accepts q p → Accepts s v
+    unfolding number-kind
+    strict-is-safe a met =
+        let over = numbers-strict-exact column transform (a .leaf) (a .predicate) (a .project-is) in
+        rows.strict-is-safe a (law Strict s q a) v p h (λ r y good e m. over r y e .0 m r e) met

@@ -6,6 +6,7 @@ use mathlib.Core.List.{List}
 use mathlib.Core.Logic.{_↔_}
 use mathlib.Core.Path.{_≡_, refl, sym, ap, ap₂, _∙_}
 use lib.ListN.{length}
+use Rattle.values.specs.laws.WordLaws.{AllBytes}
 use Rattle.values.specs.Outcomes.{Res, ok, Row}
 use Rattle.values.specs.laws.OutcomeLaws.{ok-inj}
 use Rattle.values.specs.declared.datatypes.PrimitiveType.{PrimitiveType}
@@ -87,7 +88,8 @@ module _ {A B : Type 0} {k : Kind A B} {column : PrimitiveType} {transform : Tra
         meets-leaf v p m .1 (f (m .row) (m .part) (good-row v p m) (m .part-is) (meets-predicate v p m .0 met))
 
   -- ---- where every row that has a partition value can be written: some row, and all rows
-  module _ (starts : (r : Row A) (y : Row B) → k .partition r ≡ ok y → OfPresent (law .rows .Good) r) where
+  module _ (starts : (r : Row A) (y : Row B) → k .partition r ≡ ok y → OfPresent (law .rows .Good) r)
+      (bytes : (r : Row A) → AllBytes (rowRecord (law .rows) r)) where
     abbrev pub partRecord : Row B → List ℕ
     partRecord y = rowRecord (law .parts) y
 
@@ -109,23 +111,23 @@ module _ {A B : Type 0} {k : Kind A B} {column : PrimitiveType} {transform : Tra
     some-row y f =
         let u = rowRecord (law .rows) (f .0) in
         let m = written (f .0) y (f .1) in
-        (u, part-row law s u (partRecord y) (reading .head-is) m, meets-leaf u (partRecord y) m .1 (f .2))
+        (u, bytes (f .0), part-row law s u (partRecord y) (reading .head-is) m, meets-leaf u (partRecord y) m .1 (f .2))
 
     pub all-rows : (y : Row B) → AllRows s (partRecord y) → (r : Row A) → k .partition r ≡ ok y → holds (law .rowTests) (a .leaf) r ≡ true
     unfolding written
     all-rows y f r e =
         let u = rowRecord (law .rows) r in
         let m = written r y e in
-        meets-leaf u (partRecord y) m .0 (f u (part-row law s u (partRecord y) (reading .head-is) m))
+        meets-leaf u (partRecord y) m .0 (f u (bytes r) (part-row law s u (partRecord y) (reading .head-is) m))
 
   pub row-some : (y : Row B) (p : List ℕ) → ((u : List ℕ) (m : Part u p) → m .part ≡ y) → SomeRow s p
       → (r : Row A) × (k .partition r ≡ ok y) × (holds (law .rowTests) (a .leaf) r ≡ true)
   row-some y p same f =
-      let m = part-of (f .0) p (f .1) in
-      (m .row, m .part-is ∙ ap ok (same (f .0) m), meets-leaf (f .0) p m .0 (f .2))
+      let m = part-of (f .0) p (f .2) in
+      (m .row, m .part-is ∙ ap ok (same (f .0) m), meets-leaf (f .0) p m .0 (f .3))
 
   pub rows-all : (y : Row B) (p : List ℕ) → ((u : List ℕ) (m : Part u p) → m .part ≡ y)
       → ((r : Row A) → k .partition r ≡ ok y → holds (law .rowTests) (a .leaf) r ≡ true) → AllRows s p
-  rows-all y p same f u h =
+  rows-all y p same f u b h =
       let m = part-of u p h in
       meets-leaf u p m .1 (f (m .row) (m .part-is ∙ ap ok (same u m)))

@@ -1,4 +1,5 @@
 -- The proof of demand 3 over bytes: that the demand is about something, what it rests on, and the theorem.
+pub mod RecordBytes
 pub mod Witnesses
 pub mod ReadBackLaws
 pub mod KindLaws

@@ -7,6 +7,7 @@ use mathlib.Core.Path.{refl}
 use lib.IntN.{ℤ, pos, negsuc}
 use Rattle.values.specs.laws.IntLaws.{lt-true}
 use Rattle.values.specs.Order.{compareNumbers}
+use Rattle.values.specs.Outcomes.{present}
 use Rattle.values.specs.Transforms.{transformOf}
 use Rattle.values.specs.Types.{inType}
 use Rattle.values.specs.Words.{signedBytes}
@@ -32,6 +33,7 @@ use Rattle.meets.specs.Tested.{testedSheet}
 use Rattle.answers.specs.Answers.{projectedLeaf, transformedRow}
 use Rattle.api.specs.Requests.{sheetOf, valueOf}
 use Rattle.api.specs.Routines.{projectSheet, transformValue}
+use Rattle.demand.proofs.RecordBytes.{record-bytes}
 use Rattle.api.specs.Demand3.{Returns, Accepts, RowOf, Numeric, Lifts, OneAbove}
 
 abbrev int : ℤ → List ℕ
@@ -113,7 +115,8 @@ lifts = (record { column = Date; transform = Year }, refl, refl)
 
 one-above : OneAbove lastOf1969 nought
 one-above =
-    (minusOne, negsuc 0, (refl, refl), lt-true (negsuc 0) (pos 0) refl, (refl, refl), (minusOne, rows-of-years .1, years-accepted .0))
+    let bytes = record-bytes Int (present (negsuc 0)) in
+    (minusOne, bytes, negsuc 0, (refl, refl), lt-true (negsuc 0) (pos 0) refl, (refl, refl), (minusOne, bytes, rows-of-years .1, years-accepted .0))
 
 pub one-above-asks : (s q v p : List ℕ) × Numeric s × RowOf s p v × Returns Inclusive s q × Accepts q p × Lifts s × OneAbove s p
 one-above-asks =
