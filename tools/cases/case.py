@@ -4,7 +4,7 @@ import collections
 import model
 from model import SHEET_ROOM, VALUE_ROOM
 
-HOLDS, PROJECT, STRICT_PROJECT, TRANSFORM, TEXT = range(5)
+HOLDS, PROJECT, STRICT_PROJECT, TRANSFORM, TEXT, PROGRAM = range(6)
 Case = collections.namedtuple("Case", "group routine number column transform width first second lent")
 
 
@@ -35,3 +35,9 @@ class Cases:
         number, result = model.transform(column, transform, width, value, lent)
         assert told in (None, (number, result)), (group, column, transform, width, value, told)
         self.all.append(Case(group, TRANSFORM, number, column, transform, width, value, result, lent))
+
+    def program(self, group, sheet, told=None):
+        """Its number is that of the first line."""
+        printed = model.printed(sheet)
+        assert told in (None, printed), (group, sheet, told)
+        self.all.append(Case(group, PROGRAM, int(printed.split()[1]), 0, 0, 0, sheet, printed, 0))

@@ -23,6 +23,7 @@ GROUPS = {
     15: "refusals in order",
     16: "the crate's answers",
     17: "where the specification decides",
+    18: "program `weighpick`",
 }
 CASE_HEAD, CASE_LENGTHS = struct.Struct("<BBBBBxI"), struct.Struct("<HHH")
 

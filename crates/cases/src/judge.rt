@@ -1,9 +1,11 @@
-// One case: the routine is asked, and its answer held against the one that document 01 gives.
+// One case: the routine is asked, or the program run, and its answer held against the one that document 01 gives.
 use answers::answer::Answer;
 use api::holds::holds;
 use api::literal::transform_literal;
 use api::project::project;
 use api::project::strict_project;
+use text::program::OUTPUT_SIZE;
+use text::program::print_sheet;
 use values::order::starts_with;
 
 // The routines' numbers in a case; any other is the transform of one value.
@@ -12,6 +14,9 @@ const HOLDS_TEST: u8 = 0;
 const INCLUSIVE: u8 = 1;
 
 const STRICT: u8 = 2;
+
+// Not a routine, but all that program `weighpick` prints.
+const PROGRAM: u8 = 5;
 
 // What a lent buffer holds before the call: a byte that steps from place to place, so that bytes that were moved show too.
 const FIRST_FILLER: u8 = 165;
@@ -97,10 +102,26 @@ fn is_right_within(question: Question, input: &[u8], result: &[u8], space: &mut 
     is_right_in(question, input, result, &mut space[..lent])
 }
 
-// Whether a routine answers as expected. The first part is the sheet, or the value to transform; the second is the value for the holds-test, else the result.
+// Whether the program prints these bytes for a sheet, and leaves every later byte of its buffer.
+fn is_printed(sheet: &[u8], lines: &[u8]) -> bool {
+    let mut out = [0; OUTPUT_SIZE];
+    fill(&mut out);
+    if print_sheet(sheet, &mut out) != lines.len() {
+        return false;
+    }
+    if !starts_with(&out, lines) {
+        return false;
+    }
+    is_filled_from(lines.len(), &out)
+}
+
+// Whether a case comes out as expected. The first part is the sheet, or the value to transform; the second is the value for the holds-test, else the result.
 pub fn is_right(question: Question, first: &[u8], second: &[u8]) -> bool {
     if question.routine == HOLDS_TEST {
         return holds(first, second).number() == question.expected as u32;
+    }
+    if question.routine == PROGRAM {
+        return is_printed(first, second);
     }
     let mut space = io::large_buffer();
     is_right_within(question, first, second, &mut space)

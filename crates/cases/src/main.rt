@@ -1,4 +1,5 @@
-// Runs the cases on standard input (tools/make-cases) through the four routines, and prints how many of each group and answer came out right and wrong.
+// Runs the cases on standard input (tools/make-cases) through the four routines and program `weighpick`, and prints how many of each group and answer came out
+// right and wrong.
 mod judge;
 
 use judge::Question;
@@ -13,7 +14,7 @@ const MOST_CASES: u32 = 100000;
 // The number in a header of what is no case but a text to print, before the counts of the cases since the last one.
 const TEXT: u8 = 4;
 
-// What was read: a case, and whether the routine answered as document 01 says; a text, which was printed; or the end of the input.
+// What was read: a case, and whether it came out as document 01 says; a text, which was printed; or the end of the input.
 enum Ran {
     Case(bool),
     Text,

@@ -18,8 +18,8 @@ use Rattle.expr.specs.Predicates.{operatorIn, literalsIn}
 use Rattle.sheet.specs.Records.{content}
 use Rattle.sheet.specs.Sheets.{Sheet, sheet, head, holdsLimit}
 
--- the bytes of a text, for the examples below
-abbrev ascii : string.String → List ℕ
+-- the bytes of a text
+abbrev pub ascii : string.String → List ℕ
 ascii string.[] = []
 ascii (string._∷_ c s) = code c ∷ ascii s
 
@@ -108,13 +108,6 @@ line question words = question ++ (spaced words ++ (newline ∷ []))
 -- the line for a question, the number of its answer, and the answer sheet
 unfoldable pub answerLine : List ℕ → ℕ → List ℕ → List ℕ
 answerLine question n answer = line question (digits n ∷ afterZero n (answerWords answer))
-
--- a buffer of `lineSize` bytes holds every line whose question has at most `questionSize` and whose number has 32 bits (`line-fits`)
-abbrev pub questionSize : ℕ
-questionSize = 16
-
-abbrev pub lineSize : ℕ
-lineSize = 16384
 
 -- the answer sheet of Int ≤ 290
 abbrev at-most-290 : List ℕ

@@ -1,2 +1,3 @@
 -- The laws about the definitions of `text`.
 pub mod TextLaws
+pub mod ProgramLaws

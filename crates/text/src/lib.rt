@@ -1,4 +1,5 @@
-// The lines that program `weighpick` prints, written into a lent buffer.
+// What program `weighpick` prints, written into a lent buffer.
 pub mod decimal;
 pub mod hexadecimal;
 pub mod line;
+pub mod program;

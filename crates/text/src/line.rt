@@ -16,7 +16,7 @@ ghost use lib.ListN.{length};
 ghost use Rattle.values.specs.Types.{layout};
 ghost use Rattle.values.specs.Words.{over};
 ghost use Rattle.sheet.specs.code.ReadAnswers.{LiteralAt, Placed, contentAt, contentsAt};
-ghost use Rattle.text.specs.Text.{space, digits, literalText, literalsText, answerWords, spaced, afterZero, answerLine, questionSize, lineSize};
+ghost use Rattle.text.specs.Text.{space, digits, literalText, literalsText, answerWords, spaced, afterZero, answerLine};
 
 // Each of these writes from index `at` on and gives the index after what it wrote.
 
@@ -100,16 +100,14 @@ fn put_answer(d: &mut [u8], at: usize, number: u32, answer: &[u8]) -> usize
     }
 }
 
-// The line for a question, the number of its answer, and the answer sheet, which counts after 0. It starts the buffer; handed back is its length.
-pub fn put_line(d: &mut [u8], question: &[u8], number: u32, answer: &[u8]) -> usize
-    requires { ⌜ lineSize ≤ length (now d) ⌝ }
-    requires { ⌜ length (now question) ≤ questionSize ⌝ }
-    ensures written { λ _. ⌜ now (d .exit) ≡ over 0 (answerLine (now (question .entry)) number (now (answer .entry))) (now (d .entry)) ⌝ }
-    ensures ends { λ r. ⌜ r ≡ length (answerLine (now (question .entry)) number (now (answer .entry))) ⌝ }
-    ensures inside { λ r. ⌜ r ≤ length (now (d .exit)) ⌝ }
+// The line for a question, the number of its answer, and the answer sheet, which counts after 0.
+pub fn put_line(d: &mut [u8], at: usize, question: &[u8], number: u32, answer: &[u8]) -> usize
+    requires { ⌜ at + length (answerLine (now question) number (now answer)) ≤ length (now d) ⌝ }
+    ensures { λ _. ⌜ now (d .exit) ≡ over at (answerLine (now (question .entry)) number (now (answer .entry))) (now (d .entry)) ⌝ }
+    ensures { λ r. ⌜ r ≡ at + length (answerLine (now (question .entry)) number (now (answer .entry))) ⌝ }
 {
-    put_bytes(d, 0, question);
-    let numbered = put_word(d, question.len(), number as u64);
+    put_bytes(d, at, question);
+    let numbered = put_word(d, at + question.len(), number as u64);
     let end = put_answer(d, numbered, number, answer);
     d[end] = b'\n';
     end + 1

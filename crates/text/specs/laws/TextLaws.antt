@@ -1,4 +1,4 @@
--- Laws of text: digits one by one, how long the parts of a line are, and that a line fits its buffer. Assumes nothing.
+-- Laws of text: digits one by one, and how long the parts of a line are at the most. Assumes nothing.
 use Prim.Native.Nat.{ℕ, zero, suc, _+_, _-_, _*_, _/_, _%_, _^_, _≤_, _<_}
 use native.Mathlib.Omega.{arith}
 use mathlib.Core.Bool.{Bool, true, false, cond}
@@ -21,7 +21,7 @@ use Rattle.expr.specs.declared.operator.PredicateOperator.the-variants as opera
 use Rattle.sheet.specs.Sheets.{Sheet, sheet, holdsLimit}
 use Rattle.sheet.specs.laws.SheetLaws.{Fits, sheet-read}
 use Rattle.text.specs.Text.{digit, digitsWithin, digits, decimal, hexDigits, hexadecimal, literalText, literalsText, wordsRead, answerWords}
-use Rattle.text.specs.Text.{spaced, afterZero, answerLine, questionSize, lineSize}
+use Rattle.text.specs.Text.{spaced, afterZero, answerLine}
 
 -- ---- digits
 
@@ -144,9 +144,9 @@ after-zero-few : (n : ℕ) (answer : List ℕ) → length (spaced (afterZero n (
 after-zero-few zero answer = predicate-few answer
 after-zero-few (suc n) answer = omega arith
 
-pub line-fits : (question : List ℕ) (code : ℕ) (answer : List ℕ) → length question ≤ questionSize → code < 2 ^ 32
-    → length (answerLine question code answer) ≤ lineSize
+-- a line whose number is one digit: beside the question and the predicate a space, the digit and the newline
+pub line-few : (question : List ℕ) (code : ℕ) (answer : List ℕ) → code < 10 → length (answerLine question code answer) ≤ length question + (3 + predicateSize)
 unfolding answerLine
-line-fits question code answer h k =
-    let number = digits-few 9 code (omega arith) in
+line-few question code answer h =
+    let number = digits-few 0 code (omega arith) in
     simp length-append (omega (arith, after-zero-few code answer))

@@ -1,16 +1,13 @@
 -- `line::put_line` meets its contract: question, number, predicate and newline are written one after the other. Assumes nothing.
-use Prim.Native.Nat.{ℕ, _+_, _^_, _≤_, _<_}
-use native.Mathlib.Nat.{zero-add}
+use Prim.Native.Nat.{ℕ, _+_, _≤_, _<_}
 use native.Mathlib.Omega.{arith}
 use mathlib.Core.List.{List, _∷_, _++_}
-use mathlib.Core.Path.{_≡_, sym, _∙_}
+use mathlib.Core.Path.{_≡_, refl, _∙_}
 use lib.ListN.{length, set, length-set, length-append}
 use denote.Ref.{now}
-use borrow.Author.Needs.{needs}
 use Rattle.values.specs.Words.{over}
-use Rattle.text.specs.Text.{space, newline, digits, spaced, afterZero, answerWords, answerLine, questionSize, lineSize}
-use Rattle.text.specs.laws.TextLaws.{line-fits}
-use Rattle.text.proofs.Writes.{Wrote, wrote, one, then, kept}
+use Rattle.text.specs.Text.{space, newline, digits, spaced, afterZero, answerWords, answerLine}
+use Rattle.text.proofs.Writes.{Wrote, wrote, as-ensured, one, then, kept}
 use Rattle.text.proofs.line.put_line.Statement.{statement}
 use Rattle.text.proofs.line.put_line.Tie as tie
 
@@ -21,20 +18,16 @@ numbered code = space ∷ digits code
 abbrev answered : ℕ → List ℕ → List ℕ
 answered code answer = spaced (afterZero code (answerWords answer))
 
--- a buffer, a question and a number as the contract asks for them
-record Asked (question : List ℕ) (code : ℕ) (answer d : List ℕ) : Type 0 where
-  room : lineSize ≤ length d
-  short : length question ≤ questionSize
-  small : code < 2 ^ 32
+-- a line that the buffer has room for, as the contract asks
+record Asked (at : ℕ) (question : List ℕ) (code : ℕ) (answer d : List ℕ) : Type 0 where
+  room : at + length (answerLine question code answer) ≤ length d
 
-module _ {question : List ℕ} {code : ℕ} {answer d : List ℕ} (t : Asked question code answer d) where
-  parts-room : length question + ((length (numbered code) + length (answered code answer)) + 1) ≤ length d
+module _ {at : ℕ} {question : List ℕ} {code : ℕ} {answer d : List ℕ} (t : Asked at question code answer d) where
+  parts-room : at + (length question + ((length (numbered code) + length (answered code answer)) + 1)) ≤ length d
   unfolding answerLine
-  parts-room =
-      let fits = line-fits question code answer (t .short) (t .small) in
-      omega (arith, t .room, simp length-append at fits)
+  parts-room = omega (arith, simp length-append at (t .room))
 
-  module _ {b : ℕ} {e : List ℕ} (v : Wrote 0 question d e b) where
+  module _ {b : ℕ} {e : List ℕ} (v : Wrote at question d e b) where
     size-e : length e ≡ length d
     size-e = kept (omega (arith, parts-room)) v
 
@@ -46,25 +39,28 @@ module _ {question : List ℕ} {code : ℕ} {answer d : List ℕ} (t : Asked que
       answer-room = omega (arith, parts-room, size-e, v .ended, w .ended, kept number-room w)
 
       module _ {h : ℕ} {g : List ℕ} (x : Wrote c (answered code answer) f g h) where
-        size-g : length g ≡ length d
-        size-g = kept answer-room x ∙ kept number-room w ∙ size-e
-
         end-room : h < length g
-        end-room = omega (arith, parts-room, size-g, v .ended, w .ended, x .ended)
+        end-room = omega (arith, parts-room, size-e, kept number-room w, kept answer-room x, v .ended, w .ended, x .ended)
 
-        line-written : Wrote 0 (answerLine question code answer) d (set g h newline) (h + 1)
+        line-written : Wrote at (answerLine question code answer) d (set g h newline) (h + 1)
         unfolding answerLine
         line-written =
             let both-room : b + length (numbered code ++ answered code answer) ≤ length e
             = simp length-append (omega (arith, parts-room, size-e, v .ended)) in
             then (omega (arith, parts-room)) v (then both-room (then number-room w x) (one h newline g end-room))
 
-asked : (s : tie.Start) → let a = s .args in Asked (now (a .question)) (a .number) (now (a .answer)) (now (a .d))
-asked s = record { room = s .pre .0; short = s .pre .1; small = s .fits .number .fits }
+-- the question was written
+named : {at : ℕ} {question d e : List ℕ} → e ≡ over at question d → Wrote at question d e (at + length question)
+named h = record { written = h; ended = refl }
 
--- the question starts the buffer
-named : {question d e : List ℕ} → e ≡ over 0 question d → Wrote 0 question d e (length question)
-named {question} h = record { written = h; ended = sym (zero-add (length question)) }
+asked : (s : tie.Start) → let a = s .args in Asked (a .at) (now (a .question)) (a .number) (now (a .answer)) (now (a .d))
+asked s = record { room = s .pre }
+
+put-bytes-requires : tie.Need-put-bytes-requires
+put-bytes-requires c κs = omega (arith, parts-room (asked (c .before .before .before .before)))
+
+add-put-word : tie.Need-add-put-word
+add-put-word c = let p = c .before .before .before in omega (arith, parts-room (asked (p .before .before .before .before .before)))
 
 put-word-requires : tie.Need-put-word-requires
 put-word-requires c κs =
@@ -96,16 +92,19 @@ returns c =
     let r = c .before .before in
     let q = r .before .before .before .before in
     let p = q .before .before .before .before in
-    let t = asked (p .before .before .before .before .before) in
-    let w = line-written t (named (p .put-bytes .ensures)) (wrote (q .put-word .ensures)) (wrote (r .put-answer .ensures)) in
-    let room = end-room t (named (p .put-bytes .ensures)) (wrote (q .put-word .ensures)) (wrote (r .put-answer .ensures)) in
-    (w .written, (w .ended ∙ zero-add _, simp length-set (omega (arith, room))))
+    as-ensured
+    (line-written
+    (asked (p .before .before .before .before .before))
+    (named (p .put-bytes .ensures))
+    (wrote (q .put-word .ensures))
+    (wrote (r .put-answer .ensures)))
 
 pub put-line-spec : {M : Type 1} → statement M
 put-line-spec =
     tie.close
     (tie.spec
-    (search needs)
+    put-bytes-requires
+    add-put-word
     put-word-requires
     put-answer-requires
     slice-write-d

@@ -1,0 +1,60 @@
+-- Laws of what the program prints: that it fits its buffer, and what a sheet that is too long prints. Assumes nothing.
+use Prim.Native.Nat.{ℕ, _%_, _≤_, _<_}
+use native.Mathlib.Omega.{arith}
+use mathlib.Core.Bool.{Bool, true, false}
+use mathlib.Core.List.{List}
+use mathlib.Core.Path.{_≡_, refl}
+use lib.Dec.{eqb}
+use lib.ListN.{length, length-append}
+use borrow.Author.Tests.{lt-ltb, lt-leb}
+use Rattle.values.specs.Outcomes.{Res, ok, err, errorNumber, need, _>>_}
+use Rattle.values.specs.declared.error.ErrorKind.{ErrorKind}
+use Rattle.values.specs.declared.error.ErrorKind.the-variants.{Malformed, NotUtf8, NoResultType, DataInvalid, FeatureUnsupported, Overflow}
+use Rattle.projection.specs.Steps.{Projected, some, none}
+use Rattle.projection.specs.declared.question.Question.{Question}
+use Rattle.projection.specs.declared.question.Question.the-variants.{Inclusive, Strict}
+use Rattle.sheet.specs.Records.{recordSize}
+use Rattle.sheet.specs.Sheets.{Sheet, sheet}
+use Rattle.answers.specs.Answers.{answerOf, answerNumber}
+use Rattle.api.specs.Routines.{projectSheet}
+use Rattle.text.specs.Text.{ascii, answerLine, digits}
+use Rattle.text.specs.laws.TextLaws.{line-few}
+use Rattle.text.specs.Program.{answerIn, printed, outputSize}
+
+one-digit : (e : ErrorKind) → errorNumber e < 10
+one-digit Malformed = omega arith
+one-digit NotUtf8 = omega arith
+one-digit NoResultType = omega arith
+one-digit DataInvalid = omega arith
+one-digit FeatureUnsupported = omega arith
+one-digit Overflow = omega arith
+
+number-digit : (r : Res (Projected (List ℕ))) → answerNumber (answerOf r) < 10
+number-digit (ok (some answer)) = omega arith
+number-digit (ok none) = omega arith
+number-digit (err e) = one-digit e
+
+pub printed-fits : (input : List ℕ) → length (printed input) ≤ outputSize
+unfolding printed
+printed-fits input =
+    let inclusive = projectSheet Inclusive input in
+    let strict = projectSheet Strict input in
+    let first = line-few (ascii "inclusive") (answerNumber (answerOf inclusive)) (answerIn inclusive) (number-digit inclusive) in
+    let second = line-few (ascii "strict") (answerNumber (answerOf strict)) (answerIn strict) (number-digit strict) in
+    rw length-append (omega (arith, first, second))
+
+-- ---- 01: "Over 4,160 bytes is 3"
+
+-- whether or not a test before it passes
+refused-either-way : (test : Bool) → _≡_ {A = Res Sheet} (need test Malformed >> err Malformed) (err Malformed)
+refused-either-way true = refl
+refused-either-way false = refl
+
+too-long : (question : Question) (input : List ℕ) → 4160 < length input → projectSheet question input ≡ err Malformed
+unfolding projectSheet sheet
+too-long question input h =
+    rw (lt-ltb 0 (length input) (omega arith), lt-leb (length input) 4160 h, refused-either-way (eqb (length input % recordSize) 0))
+
+pub over-4160 : (input : List ℕ) → 4160 < length input → printed input ≡ ascii "inclusive 3\nstrict 3\n"
+unfolding printed answerLine digits
+over-4160 input h = rw (too-long Inclusive input h, too-long Strict input h)
