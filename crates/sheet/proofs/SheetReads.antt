@@ -14,12 +14,12 @@ use Rattle.values.specs.Types.{layout}
 use Rattle.values.specs.declared.error.ErrorKind.{ErrorKind}
 use Rattle.values.specs.declared.error.ErrorKind.the-variants.{Malformed}
 use Rattle.expr.specs.Operators.{byArity, takes}
-use Rattle.sheet.specs.code.ReadAnswers.{contentAt, recordCount, malformedChain, walkedAs, Stored, headIn, headResult, sheetResult, LiteralsRead, recordsFrom}
-use Rattle.sheet.specs.Records.{recordSize}
+use Rattle.sheet.specs.code.ReadAnswers.{contentAt, malformedChain, walkedAs, Stored, headIn, headResult, sheetResult, LiteralsRead, recordsFrom}
+use Rattle.sheet.specs.Records.{recordSize, recordCount}
 use Rattle.sheet.specs.laws.SheetStepLaws.{withChain, sheet-steps, Made, predicate-made, predicate-refused}
 use Rattle.sheet.specs.Sheets.{Sheet, sheet, holdsLimit}
 use Rattle.sheet.specs.laws.RefusalLaws.{OnlyMalformed}
-use Rattle.sheet.specs.laws.WalkLaws.{walk-malformed, few-above, literals-above, literal-at}
+use Rattle.sheet.specs.laws.WalkLaws.{walk-malformed, walk-few, walk-literals}
 use Rattle.sheet.specs.declared.head.Head.{Head}
 use Rattle.sheet.specs.declared.head.HeadResult.{HeadResult}
 use Rattle.sheet.specs.declared.sheet.SheetResult.{SheetResult}
@@ -88,7 +88,7 @@ module _ (most : ℕ) (s records : List ℕ) where
           no-chain limit d =
               let l = layout (h .column) in
               let first : 0 < recordCount s = omega arith in
-              let e = found-none count _ (walk-malformed l s 0) (λ ns f. omega (arith, few-above first (literals-above l s 0 first f))) walks d in
+              let e = found-none count _ (walk-malformed l s 0) (λ ns f. omega (arith, walk-few l s 0 first f)) walks d in
               refused (rw (steps, is-head, e))
 
           module _ (sound : count ≡ malformedChain → ⊥) where
@@ -105,8 +105,7 @@ module _ (most : ℕ) (s records : List ℕ) where
               read-so ns e n made =
                   let x : Sheet = record { head = record { column = h .column; transform = h .transform }; leaf = made .leaf } in
                   let is : sheet most s ≡ ok x = rw (steps, is-head, e, made .made) in
-                  let front : take (length ns) records ≡ ns = rw (zero-add) at (stored .stored ns e) in
-                  let above = literals-above (layout (h .column)) s 0 (omega arith) e in (
+                  let front : take (length ns) records ≡ ns = rw (zero-add) at (stored .stored ns e) in (
                     rw (is, made .operator, made .literals, length-map, n),
                     λ y q. subst (LiteralsRead s records) (ok-inj (sym is ∙ q))
                         (record {
@@ -114,7 +113,7 @@ module _ (most : ℕ) (s records : List ℕ) where
                           each = λ i k.
                               let j : i < length ns = simp (made .literals, length-map) at k in
                               let same : getD ns i 0 ≡ getD records i 0 = ap (λ (l : List ℕ). getD l i 0) (sym front) ∙ getD-take (length ns) records i 0 j in
-                              rw (← same) (literal-at (h .column) s above i j);
+                              rw (← same) (walk-literals (h .column) s 0 e i j);
                         }),
                   )
 

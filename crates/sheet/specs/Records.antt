@@ -1,9 +1,9 @@
 -- Records: how literals and values stand in bytes. A value is here still the bytes of its content. Assumes nothing.
-use Prim.Native.Nat.{ℕ, zero, suc, _+_, _-_, _*_}
+use Prim.Native.Nat.{ℕ, _+_, _-_, _*_, _/_}
 use mathlib.Core.Bool.{cond}
-use mathlib.Core.List.{List, [], _∷_}
+use mathlib.Core.List.{List}
 use lib.Dec.{eqb}
-use lib.ListN.{length, take, drop}
+use lib.ListN.{length}
 use Rattle.values.specs.Outcomes.{Res, ok, need, _>>=_, _>>_, Row, missing, present}
 use Rattle.values.specs.Types.{Layout, contentSize, fits}
 use Rattle.values.specs.Words.{field, word, zeroAt}
@@ -16,12 +16,10 @@ headerSize = 4
 abbrev pub recordSize : ℕ
 recordSize = headerSize + contentSize
 
--- s cut into n records
-abbrev pub records : ℕ → List ℕ → List (List ℕ)
-records zero s = []
-records (suc n) s = take recordSize s ∷ records n (drop recordSize s)
+-- how many records s has, and record k of them; 01: "numbered from 0"
+abbrev pub recordCount : List ℕ → ℕ
+recordCount s = length s / recordSize
 
--- record k of s
 abbrev pub recordAt : List ℕ → ℕ → List ℕ
 recordAt s k = field (recordSize * k) recordSize s
 

@@ -1,39 +1,52 @@
 -- Sheets: a leaf over one column, with the transform that splits the table, as bytes. One rule of document 01 a line; what fails one is 3. Assumes nothing.
-use Prim.Native.Nat.{ℕ, suc, _-_, _*_, _/_, _%_}
+use Prim.Native.Nat.{ℕ, zero, suc, _-_, _*_, _%_}
 use mathlib.Core.Bool.{cond}
-use mathlib.Core.List.{List, [], _∷_}
+use mathlib.Core.List.{List, [], _∷_, _++_}
+use mathlib.Core.Path.{_≡_, refl}
 use lib.Dec.{ltb, leb, eqb}
-use lib.ListN.{length, drop}
-use Rattle.values.specs.Outcomes.{Res, ok, need, each, _>>=_, _>>_}
+use lib.ListN.{length, replicate}
+use Rattle.values.specs.Outcomes.{Res, ok, err, need, each, _>>=_, _>>_}
 use Rattle.values.specs.Numbered.{find}
 use Rattle.values.specs.Types.{types, layout}
 use Rattle.values.specs.Transforms.{transformOf}
-use Rattle.values.specs.Words.{word, zeroAt}
+use Rattle.values.specs.Words.{leBytes, word, zeroAt}
 use Rattle.values.specs.declared.error.ErrorKind.the-variants.{Malformed}
 use Rattle.values.specs.declared.datatypes.PrimitiveType.{PrimitiveType}
 use Rattle.values.specs.declared.transform.Transform.{Transform}
 use Rattle.expr.specs.Operators.{operators}
 use Rattle.expr.specs.Predicates.{Predicate, predicate}
-use Rattle.sheet.specs.Records.{recordSize, records, nextIn, content}
+use Rattle.sheet.specs.Records.{recordSize, recordCount, recordAt, nextIn, content}
 
 -- ---- the chain
 
-abbrev linked : List ℕ → Res (List (List ℕ)) → Res (List (List ℕ))
-linked r rest = do
-  rs ← rest
-  ok (r ∷ rs)
-
 -- 01: "chained by a next index; zero ends the chain. A next is 0, or above its own record's number and below the record count. Records off the chain are
--- ignored." The records given are those numbered k, k + 1, ..: of them those on the chain that goes on at record n. A next that is the number of no later
--- record is never met, and so 3
-abbrev pub chain : ℕ → ℕ → List (List ℕ) → Res (List (List ℕ))
-chain k n [] = do
-  need (eqb n 0) Malformed
-  ok []
-chain k n (r ∷ rs) =
-    let on = linked r (chain (suc k) (nextIn r) rs) in
-    let off = chain (suc k) n rs in
-    cond (eqb n 0) (ok []) (cond (eqb n k) on off)
+-- ignored." The numbers of the records after record k on its chain, found in so many steps. Since the numbers rise, as many steps as there are records are
+-- enough: more give the same (`SheetLaws.chain-enough`), and the first line is never met
+abbrev pub chain : ℕ → List ℕ → ℕ → Res (List ℕ)
+chain zero s k = ok []
+chain (suc steps) s k =
+    let next = nextIn (recordAt s k) in
+    cond (eqb next 0) (ok []) do
+      need (ltb k next) Malformed
+      need (ltb next (recordCount s)) Malformed
+      ns ← chain steps s next
+      ok (next ∷ ns)
+
+-- records that hold a next and nothing else
+abbrev withNexts : List ℕ → List ℕ
+withNexts [] = []
+withNexts (n ∷ ns) = leBytes 2 n ++ replicate (recordSize - 2) 0 ++ withNexts ns
+
+-- record 0's next is 2, and record 2's is 0: record 1 is off the chain, and what it says is ignored
+passed-over : chain 3 (withNexts (2 ∷ 9 ∷ 0 ∷ [])) 0 ≡ ok (2 ∷ [])
+passed-over = refl
+
+-- record 2's next is not above 2, and record 1's not below 3
+points-back : chain 3 (withNexts (2 ∷ 0 ∷ 1 ∷ [])) 0 ≡ err Malformed
+points-back = refl
+
+past-the-last : chain 3 (withNexts (1 ∷ 3 ∷ 0 ∷ [])) 0 ≡ err Malformed
+past-the-last = refl
 
 -- ---- the head
 
@@ -65,8 +78,8 @@ sheet most s = do
   h ← head (word 4 1 s) (word 5 1 s) (word 8 4 s)
   need (zeroAt 6 2 s) Malformed
   need (zeroAt 12 (recordSize - 12) s) Malformed
-  rs ← chain 1 (nextIn s) (records (length s / recordSize - 1) (drop recordSize s))
-  literals ← each (content (layout (h .column))) rs
+  ns ← chain (recordCount s) s 0
+  literals ← each (λ n. content (layout (h .column)) (recordAt s n)) ns
   leaf ← predicate operator literals
   ok (record { head = h; leaf = leaf })
 

@@ -8,9 +8,9 @@ ghost use mathlib.Core.Path.{_≡_};
 ghost use Prim.Native.Nat.{suc, _*_, _≤_, _<_};
 ghost use lib.ListN.{length};
 ghost use Rattle.values.specs.Types.{layout};
-ghost use Rattle.sheet.specs.Records.{recordSize};
+ghost use Rattle.sheet.specs.Records.{recordSize, recordCount};
 ghost use Rattle.sheet.specs.Sheets.{holdsLimit};
-ghost use Rattle.sheet.specs.code.ReadAnswers.{recordCount, literalAfter, walkedAs, Stored, recordsFrom};
+ghost use Rattle.sheet.specs.code.ReadAnswers.{literalAfter, walkedAs, Stored, recordsFrom};
 
 // What stands for a malformed chain: more literals than any sheet has.
 pub const MALFORMED_CHAIN: usize = HOLDS_LIMIT + 1;

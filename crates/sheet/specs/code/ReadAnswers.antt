@@ -1,5 +1,5 @@
 -- What the code that reads sheets answers, as the definitions have it: its enums, a walk's count, and the records that it names. Assumes nothing.
-use Prim.Native.Nat.{ℕ, zero, suc, _+_, _-_, _*_, _/_, _≤_, _<_}
+use Prim.Native.Nat.{ℕ, suc, _+_, _-_, _*_, _≤_, _<_}
 use mathlib.Core.Bool.{Bool, true, false, cond, _&&_}
 use mathlib.Core.List.{List, [], _∷_, map, _++_}
 use mathlib.Core.Path.{_≡_}
@@ -13,7 +13,7 @@ use Rattle.values.specs.Words.{leNumber, field, word, zeroAt, signed}
 use Rattle.values.specs.declared.error.ErrorKind.the-variants.{Malformed}
 use Rattle.expr.specs.Operators.{operators}
 use Rattle.expr.specs.Predicates.{operatorIn, literalsIn}
-use Rattle.sheet.specs.Records.{headerSize, recordSize, recordAt, nextIn, lengthIn, content}
+use Rattle.sheet.specs.Records.{headerSize, recordSize, recordCount, recordAt, nextIn, lengthIn, content}
 use Rattle.sheet.specs.Sheets as sheets
 use Rattle.sheet.specs.declared.head.Head.{Head}
 use Rattle.sheet.specs.declared.head.HeadResult.{HeadResult}
@@ -29,9 +29,6 @@ isOk (ok x) = true
 isOk (err e) = false
 
 -- ---- records by their numbers
-
-abbrev pub recordCount : List ℕ → ℕ
-recordCount s = length s / recordSize
 
 -- the content of record k, as long as the record says
 abbrev pub contentAt : List ℕ → ℕ → List ℕ
@@ -97,26 +94,22 @@ literalAfter l s at =
     let sound = ltb at n && ltb n (recordCount s) && isOk (content l (recordAt s n)) in
     cond (eqb n 0) 0 (cond sound n malformedChain)
 
--- one number more, of a record that has to hold a literal
-abbrev pub withRecord : Layout → List ℕ → ℕ → Res (List ℕ) → Res (List ℕ)
-withRecord l s k rest = do
-  need (isOk (content l (recordAt s k))) Malformed
-  ns ← rest
-  ok (k ∷ ns)
+-- whether the records with these numbers all hold literals
+abbrev pub allLiterals : Layout → List ℕ → List ℕ → Bool
+allLiterals l s [] = true
+allLiterals l s (n ∷ ns) = isOk (content l (recordAt s n)) && allLiterals l s ns
 
--- as `chain`, by numbers: of the m records k, k + 1, .. of s, the numbers of those on the chain that goes on at record n
-abbrev pub recordsOn : Layout → List ℕ → ℕ → ℕ → ℕ → Res (List ℕ)
-recordsOn l s k n zero = do
-  need (eqb n 0) Malformed
-  ok []
-recordsOn l s k n (suc m) =
-    let on = withRecord l s k (recordsOn l s (suc k) (nextIn (recordAt s k)) m) in
-    let off = recordsOn l s (suc k) n m in
-    cond (eqb n 0) (ok []) (cond (eqb n k) on off)
+-- numbers of records, which all have to hold literals
+abbrev pub holdLiterals : Layout → List ℕ → List ℕ → Res (List ℕ)
+holdLiterals l s ns = do
+  need (allLiterals l s ns) Malformed
+  ok ns
 
 -- the numbers of the literals after record `at` on its chain
 unfoldable pub recordsFrom : Layout → List ℕ → ℕ → Res (List ℕ)
-recordsFrom l s at = recordsOn l s (suc at) (nextIn (recordAt s at)) (recordCount s - suc at)
+recordsFrom l s at = do
+  ns ← sheets.chain (recordCount s) s at
+  holdLiterals l s ns
 
 -- so many numbers as were there before, and those found
 abbrev pub walkedAs : ℕ → Res (List ℕ) → ℕ

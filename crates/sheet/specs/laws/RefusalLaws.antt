@@ -1,10 +1,10 @@
 -- Bytes that are no record or no sheet are refused with one error only: 3. Assumes nothing.
-use Prim.Native.Nat.{ℕ, suc, _+_, _-_, _*_, _/_, _%_}
+use Prim.Native.Nat.{ℕ, zero, suc, _+_, _-_, _*_, _%_}
 use mathlib.Core.Bool.{Bool, true, false, cond}
 use mathlib.Core.List.{List, [], _∷_}
 use mathlib.Core.Path.{_≡_, refl, sym, subst}
 use lib.Dec.{ltb, leb, eqb}
-use lib.ListN.{length, drop}
+use lib.ListN.{length}
 use Rattle.values.specs.Numbered.{Numbered, _is_, find}
 use Rattle.values.specs.Outcomes.{Res, ok, err, need, each, _>>=_, _>>_}
 use Rattle.values.specs.laws.OutcomeLaws.{ok-not-err}
@@ -15,7 +15,7 @@ use Rattle.values.specs.declared.error.ErrorKind.{ErrorKind}
 use Rattle.values.specs.declared.error.ErrorKind.the-variants.{Malformed}
 use Rattle.expr.specs.Operators.{Operator, none, one, many, byArity, operators}
 use Rattle.expr.specs.Predicates.{withLiterals, predicate}
-use Rattle.sheet.specs.Records.{headerSize, recordSize, records, nextIn, lengthIn, content, missingMark, missingValue, presentValue, value}
+use Rattle.sheet.specs.Records.{headerSize, recordSize, recordCount, recordAt, nextIn, lengthIn, content, missingMark, missingValue, presentValue, value}
 use Rattle.sheet.specs.Sheets.{chain, head, sheet}
 
 -- ---- any step: its refusals are all among those that p holds of
@@ -79,11 +79,12 @@ head-only type transform width =
     only-bind (find types type) _ (find-only types type) (λ t.
     only-bind (transformOf transform width) _ (transform-only transform width) (λ f. only-ok))
 
-pub chain-only : (rs : List (List ℕ)) (k n : ℕ) → OnlyMalformed (chain k n rs)
-chain-only [] k n = must (eqb n 0) (ok []) only-ok
-chain-only (r ∷ rs) k n =
-    let on = only-bind (chain (suc k) (nextIn r) rs) (λ (ps : List (List ℕ)). ok (r ∷ ps)) (chain-only rs (suc k) (nextIn r)) (λ ps. only-ok) in
-    only-cond (eqb n 0) (ok []) _ only-ok (only-cond (eqb n k) _ _ on (chain-only rs (suc k) n))
+pub chain-only : (steps : ℕ) (s : List ℕ) (k : ℕ) → OnlyMalformed (chain steps s k)
+chain-only zero s k = only-ok
+chain-only (suc steps) s k =
+    let next = nextIn (recordAt s k) in
+    let on = only-bind (chain steps s next) (λ (ns : List ℕ). ok (next ∷ ns)) (chain-only steps s next) (λ ns. only-ok) in
+    only-cond (eqb next 0) (ok []) _ only-ok (must (ltb k next) _ (must (ltb next (recordCount s)) _ on))
 
 leaf-only : {A : Type 0} (a : Operator) (ls : List A) → OnlyMalformed (withLiterals a ls)
 leaf-only (none o) [] = only-ok
@@ -96,11 +97,11 @@ leaf-only (many o) ls = only-ok
 pub sheet-only : (most : ℕ) (s : List ℕ) → OnlyMalformed (sheet most s)
 unfolding sheet
 sheet-only most s =
-    let rs = records (length s / recordSize - 1) (drop recordSize s) in
     must (ltb 0 (length s)) _ (must (eqb (length s % recordSize) 0) _ (must (leb (length s) (recordSize * suc most)) _
     (only-bind (find operators (word 2 2 s)) _ (find-only operators (word 2 2 s)) (λ o.
     only-bind (head (word 4 1 s) (word 5 1 s) (word 8 4 s)) _ (head-only (word 4 1 s) (word 5 1 s) (word 8 4 s)) (λ h.
     must (zeroAt 6 2 s) _ (must (zeroAt 12 (recordSize - 12) s) _
-    (only-bind (chain 1 (nextIn s) rs) _ (chain-only rs 1 (nextIn s)) (λ qs.
-    only-bind (each (content (layout (h .column))) qs) _ (only-each (content (layout (h .column))) (content-only (layout (h .column))) qs) (λ ls.
+    (only-bind (chain (recordCount s) s 0) _ (chain-only (recordCount s) s 0) (λ ns.
+    let read : ℕ → Res (List ℕ) = λ n. content (layout (h .column)) (recordAt s n) in
+    only-bind (each read ns) _ (only-each read (λ n. content-only (layout (h .column)) (recordAt s n)) ns) (λ ls.
     only-bind (predicate o ls) _ (leaf-only (byArity o) ls) (λ leaf. only-ok))))))))))

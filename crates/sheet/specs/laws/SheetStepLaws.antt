@@ -5,23 +5,22 @@ use mathlib.Core.Bool.{Bool, true, false}
 use mathlib.Core.List.{List, [], _∷_, map}
 use mathlib.Core.Path.{_≡_, refl, sym, ap, _∙_}
 use lib.Dec.{ltb, leb, eqb}
-use lib.ListN.{length, drop}
+use lib.ListN.{length}
 use borrow.Author.Tests.{ne-eqb}
 use Rattle.values.specs.Numbered.{find}
 use Rattle.values.specs.Outcomes.{Res, ok, err, need, each, _>>=_, _>>_}
 use Rattle.values.specs.laws.TestLaws.{clash}
-use Rattle.values.specs.Types.{Layout, layout}
+use Rattle.values.specs.Types.{layout}
 use Rattle.values.specs.Words.{word, zeroAt}
 use Rattle.values.specs.declared.error.ErrorKind.the-variants.{Malformed}
 use Rattle.expr.specs.Operators.{Operator, none, one, many, byArity, operators, operatorOf, takes}
 use Rattle.expr.specs.laws.PredicateLaws.{operator-of}
 use Rattle.expr.specs.Predicates.{Predicate, unary, test, binary, set, operatorIn, literalsIn, withLiterals, predicate}
 use Rattle.expr.specs.declared.operator.PredicateOperator.{PredicateOperator}
-use Rattle.sheet.specs.code.ReadAnswers.{recordCount, contentAt, headIn, recordsFrom}
-use Rattle.sheet.specs.laws.PartLaws.{next-here}
-use Rattle.sheet.specs.Records.{recordSize, records, nextIn, content}
+use Rattle.sheet.specs.code.ReadAnswers.{contentAt, headIn, recordsFrom}
+use Rattle.sheet.specs.Records.{recordSize, recordCount, recordAt, content}
 use Rattle.sheet.specs.Sheets.{chain, head, Sheet, sheet}
-use Rattle.sheet.specs.laws.WalkLaws.{records-from-chain}
+use Rattle.sheet.specs.laws.WalkLaws.{literals-follow}
 use Rattle.sheet.specs.declared.head.Head.{Head}
 
 -- what follows a head: the leaf of its operator and of the literals on the chain
@@ -45,28 +44,16 @@ through (ok o) (ok h) false z f g k e = refl
 through (ok o) (err d) y z f g k e = refl
 through (err d) b y z f g k e = refl
 
-bind-bind : {A B C : Type 0} (r : Res A) (f : A → Res B) (g : B → Res C) → (r >>= λ x. f x >>= g) ≡ ((r >>= f) >>= g)
-bind-bind (ok x) f g = refl
-bind-bind (err e) f g = refl
-
 module _ (s : List ℕ) where
-  literals-follow : {A : Type 0} (l : Layout) (g : List (List ℕ) → Res A)
-      → (chain 1 (nextIn s) (records (recordCount s - 1) (drop recordSize s)) >>= λ rs. each (content l) rs >>= g)
-      ≡ (recordsFrom l s 0 >>= λ ns. g (map (contentAt s) ns))
-  literals-follow l g =
-      bind-bind (chain 1 (nextIn s) (records (recordCount s - 1) (drop recordSize s))) (each (content l)) g
-      ∙ rw (next-here s 0) (ap (λ r. r >>= g) (records-from-chain l s 0))
-      ∙ sym (bind-bind (recordsFrom l s 0) (λ ns. ok (map (contentAt s) ns)) g)
-
   after-size : (find operators (word 2 2 s) >>= λ o. head (word 4 1 s) (word 5 1 s) (word 8 4 s) >>= λ h.
       need (zeroAt 6 2 s) Malformed >> (need (zeroAt 12 (recordSize - 12) s) Malformed >>
-      (chain 1 (nextIn s) (records (recordCount s - 1) (drop recordSize s)) >>= λ rs. each (content (layout (h .column))) rs >>= λ ls.
+      (chain (recordCount s) s 0 >>= λ ns. each (λ n. content (layout (h .column)) (recordAt s n)) ns >>= λ ls.
       predicate o ls >>= λ leaf. ok (record { head = h; leaf = leaf }))))
       ≡ (headIn s >>= withChain s)
   unfolding headIn
   after-size =
       through (find operators (word 2 2 s)) (head (word 4 1 s) (word 5 1 s) (word 8 4 s)) (zeroAt 6 2 s) (zeroAt 12 (recordSize - 12) s) _ (withChain s) _
-      (λ o h. literals-follow (layout (h .column)) _)
+      (λ o h. literals-follow (layout (h .column)) s 0 _)
 
   pub sheet-steps : (most : ℕ) → sheet most s
       ≡ (need (ltb 0 (length s)) Malformed >> (need (eqb (length s % recordSize) 0) Malformed >>

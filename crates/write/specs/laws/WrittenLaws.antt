@@ -1,12 +1,12 @@
 -- Answers: an answer sheet that is written is read, and how long it is. Assumes nothing.
-use Prim.Native.Nat.{ℕ, suc, _+_, _-_, _*_, _/_, _%_, _^_, _≤_, _<_}
+use Prim.Native.Nat.{ℕ, suc, _+_, _*_, _%_, _^_, _≤_, _<_}
 use native.Mathlib.Omega.{arith}
 use mathlib.Core.Bool.{Bool, true, false, cond, _&&_}
 use mathlib.Core.List.{List, [], _∷_}
-use mathlib.Core.Path.{_≡_, refl, ap, ap₂, _∙_}
+use mathlib.Core.Path.{_≡_, refl, _∙_}
 use lib.Dec.{ltb, eqb}
-use lib.ListN.{length, length-append}
-use lib.Seq.{take-at, drop-at}
+use lib.ListN.{length, drop, length-append}
+use lib.Seq.{take-at, drop-at, drop-drop}
 use borrow.Author.Tests.{ltb-true, eqb-true, lt-ltb, le-leb, eq-eqb, ne-eqb}
 use Rattle.values.specs.Numbered.{Numbered, _is_, find}
 use Rattle.values.specs.Outcomes.{ok, each}
@@ -21,7 +21,7 @@ use Rattle.values.specs.declared.error.ErrorKind.the-variants.{Malformed}
 use Rattle.values.specs.declared.transform.Transform.the-variants.{Identity}
 use Rattle.expr.specs.Operators.{operators, operatorNumber}
 use Rattle.expr.specs.Predicates.{Predicate, operatorIn, literalsIn}
-use Rattle.sheet.specs.Records.{recordSize, records, nextIn, content}
+use Rattle.sheet.specs.Records.{recordSize, recordCount, recordAt, nextIn, content}
 use Rattle.sheet.specs.laws.RecordLaws.{fits-room}
 use Rattle.write.specs.laws.RoundTripLaws.{length-literal, content-back}
 use Rattle.sheet.specs.Sheets.{chain, head, sheet}
@@ -50,9 +50,9 @@ module _ {X : Type 0} (w : ℕ) where
   found-back xs n h e = rw (number-bytes w n (found-small xs n h e)) e
 
 -- ---- the records of an answer
-abbrev recordList : ℕ → List (List ℕ) → List (List ℕ)
-recordList k [] = []
-recordList k (b ∷ bs) = literalRecord (nextTo (suc k) bs) b ∷ recordList (suc k) bs
+nextTo-back : (k : ℕ) (bs : List (List ℕ)) → k < 65536 → leNumber (leBytes 2 (nextTo k bs)) ≡ nextTo k bs
+nextTo-back k [] h = refl
+nextTo-back k (b ∷ bs) h = number-bytes 2 k h
 
 module _ (ty : PrimitiveType) where
   pub length-records : (k : ℕ) (bs : List (List ℕ)) → Fits ty bs → length (literalRecords k bs) ≡ recordSize * length bs
@@ -62,31 +62,35 @@ module _ (ty : PrimitiveType) where
       let size = length-literal (nextTo (suc k) bs) b (fits-room ty (length b) (h .0)) in
       omega (arith, length-append r (literalRecords (suc k) bs), size, length-records (suc k) bs (h .1))
 
-  records-back : (k : ℕ) (bs : List (List ℕ)) → Fits ty bs → records (length bs) (literalRecords k bs) ≡ recordList k bs
-  records-back k [] h = refl
-  records-back k (b ∷ bs) h =
-      let r = literalRecord (nextTo (suc k) bs) b in
-      let size = length-literal (nextTo (suc k) bs) b (fits-room ty (length b) (h .0)) in
-      ap₂ _∷_ (take-at r (literalRecords (suc k) bs) recordSize size)
-      (ap (records (length bs)) (drop-at r (literalRecords (suc k) bs) recordSize size) ∙ records-back (suc k) bs (h .1))
+  module _ (s : List ℕ) where
+    -- the literals on the chain after record k are bs
+    pub record Back (steps k : ℕ) (bs : List (List ℕ)) : Type 0 where
+      pub ns : List ℕ
+      pub on : chain steps s k ≡ ok ns
+      pub contents : each (λ n. content (layout ty) (recordAt s n)) ns ≡ ok bs
 
-  contents-back : (k : ℕ) (bs : List (List ℕ)) → Fits ty bs → each (content (layout ty)) (recordList k bs) ≡ ok bs
-  contents-back k [] h = refl
-  contents-back k (b ∷ bs) h =
-      let first = content-back ty (nextTo (suc k) bs) b (h .0) in
-      each-put (content (layout ty)) (literalRecord (nextTo (suc k) bs) b) (recordList (suc k) bs) first (contents-back (suc k) bs (h .1))
+    one-more : (k : ℕ) (b : List ℕ) (bs : List (List ℕ)) → nextIn (recordAt s k) ≡ suc k → suc k < recordCount s
+        → content (layout ty) (recordAt s (suc k)) ≡ ok b → {steps : ℕ} → Back steps (suc k) bs → Back (suc steps) k (b ∷ bs)
+    one-more k b bs next there first x = record {
+      ns = suc k ∷ x .ns;
+      on = rw (next, ne-eqb (suc k) 0 (λ z. omega arith), lt-ltb k (suc k) (omega arith), lt-ltb (suc k) (recordCount s) there, x .on);
+      contents = each-put (λ n. content (layout ty) (recordAt s n)) (suc k) (x .ns) first (x .contents);
+    }
 
-nextTo-back : (k : ℕ) (bs : List (List ℕ)) → k < 65536 → leNumber (leBytes 2 (nextTo k bs)) ≡ nextTo k bs
-nextTo-back k [] h = refl
-nextTo-back k (b ∷ bs) h = number-bytes 2 k h
-
-chain-back : (k : ℕ) (bs : List (List ℕ)) → 0 < k → k + length bs < 65536 → chain k (nextTo k bs) (recordList k bs) ≡ ok (recordList k bs)
-chain-back k [] g h = refl
-chain-back k (b ∷ bs) g h =
-    let rs = recordList (suc k) bs in
-    let rest : chain (suc k) (nextIn (literalRecord (nextTo (suc k) bs) b)) rs ≡ ok rs
-    = ap (λ (n : ℕ). chain (suc k) n rs) (nextTo-back (suc k) bs (omega arith)) ∙ chain-back (suc k) bs (omega arith) (omega arith) in
-    rw (ne-eqb k 0 (λ e. omega arith), eq-eqb k k refl, rest)
+    -- so they are where bs stand in the records after record k, to the last
+    chain-back : (k : ℕ) (bs : List (List ℕ)) → Fits ty bs → recordCount s ≡ suc k + length bs → recordCount s < 65536
+        → nextIn (recordAt s k) ≡ nextTo (suc k) bs → drop (recordSize * suc k) s ≡ literalRecords (suc k) bs → Back (suc (length bs)) k bs
+    chain-back k [] h count few next rest = record { ns = []; on = rw next; contents = refl }
+    chain-back k (b ∷ bs) h count few next rest =
+        let n = suc k in
+        let r = literalRecord (nextTo (suc n) bs) b in
+        let after = literalRecords (suc n) bs in
+        let size = length-literal (nextTo (suc n) bs) b (fits-room ty (length b) (h .0)) in
+        let here : recordAt s n ≡ r = rw rest (take-at r after recordSize size) in
+        let e : recordSize * n + recordSize ≡ recordSize * suc n = omega arith in
+        let beyond : drop (recordSize * suc n) s ≡ after = rw (← e, ← drop-drop recordSize (recordSize * n) s, rest) (drop-at r after recordSize size) in
+        one-more k b bs next (omega arith) (rw here (content-back ty (nextTo (suc n) bs) b (h .0)))
+        (chain-back n bs (h .1) (omega arith) few (rw here (nextTo-back (suc n) bs (omega arith))) beyond)
 
 -- ---- an answer
 pub length-answer : (ty : PrimitiveType) (p : Predicate (List ℕ)) → Fits ty (literalsIn p)
@@ -98,14 +102,21 @@ answer-head : (ty : PrimitiveType) → head (leNumber (leBytes 1 (typeNumber ty)
 unfolding head
 answer-head ty = going _ (found-back 1 types (typeNumber ty) refl (type-found ty)) ∙ going _ (transform-found Identity)
 
+answer-literals : (ty : PrimitiveType) (p : Predicate (List ℕ)) → Fits ty (literalsIn p) → length (literalsIn p) ≤ 60000
+    → Back ty (answerSheet ty p) (recordCount (answerSheet ty p)) 0 (literalsIn p)
+unfolding answerSheet
+answer-literals ty p h few =
+    let ls = literalsIn p in
+    let count : recordCount (answerSheet ty p) ≡ suc (length ls) = omega (arith, length-answer ty p h) in
+    rw count (chain-back ty (answerSheet ty p) 0 ls h (omega arith) (omega arith) (nextTo-back 1 ls (omega arith)) refl)
+
 pub answer-back : (most : ℕ) (ty : PrimitiveType) (p : Predicate (List ℕ)) → most ≤ 60000 → Fits ty (literalsIn p) → length (literalsIn p) ≤ most
     → sheet most (answerSheet ty p) ≡ ok (record { head = record { column = ty; transform = Identity }; leaf = p })
 unfolding sheet answerSheet
 answer-back most ty p few h k =
     let s = answerSheet ty p in
-    let ls = literalsIn p in
     let size = length-answer ty p h in
-    let others : length s / recordSize - 1 ≡ length ls = omega (arith, size) in
+    let back = answer-literals ty p h (omega arith) in
     passing Malformed _ (lt-ltb 0 (length s) (omega (arith, size)))
     ∙ passing Malformed _ (eq-eqb (length s % recordSize) 0 (omega (arith, size)))
     ∙ passing Malformed _ (le-leb (length s) (recordSize * suc most) (omega (arith, size)))
@@ -113,9 +124,6 @@ answer-back most ty p few h k =
     ∙ going _ (answer-head ty)
     ∙ passing Malformed _ refl
     ∙ passing Malformed _ refl
-    ∙ going _
-    (ap₂ (λ (n m : ℕ). chain 1 n (records m (literalRecords 1 ls))) (nextTo-back 1 ls (omega arith)) others
-    ∙ ap (chain 1 (nextTo 1 ls)) (records-back ty 1 ls h)
-    ∙ chain-back 1 ls (omega arith) (omega arith))
-    ∙ going _ (contents-back ty 1 ls h)
+    ∙ going _ (back .on)
+    ∙ going _ (back .contents)
     ∙ going _ (predicate-back p)

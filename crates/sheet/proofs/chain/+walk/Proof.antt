@@ -3,7 +3,7 @@ use borrow.Author.Needs.{needs}
 use Prim.Native.Nat.{ℕ, _-_, _<_}
 use denote.Ref.{now}
 use Rattle.values.specs.Types.{layout}
-use Rattle.sheet.specs.code.ReadAnswers.{recordCount}
+use Rattle.sheet.specs.Records.{recordCount}
 use native.Mathlib.Nat.{add-assoc}
 use native.Mathlib.Omega.{arith}
 use mathlib.Core.Path.{_∙_}
@@ -33,13 +33,13 @@ module _ (t : ℕ) where
   first : (c : walk-lts.Else2 (literal-after-reads.Asked, literal-after-reads.Learnt, walk-below t, walk.Post) (walk-at t) walk.Post)
       → let a = c .before .before .before .before .before .args in
       Next (layout (a .column)) (now (a .s)) (a .at) (c .before .before .literal-after .result)
-  first c = walk-goes-on (tells (c .before .before .literal-after .ensures)) (c .before .if1 .left) (c .if2 .left)
+  first c = walk-goes-on (tells (c .before .before .literal-after .ensures) (omega arith)) (c .before .if1 .left) (c .if2 .left)
 
   second : (c : walk-lts.Else4 (literal-after-reads.Asked, literal-after-reads.Learnt, walk-below t, walk.Post) (walk-at t) walk.Post)
       → let b = c .before .before .before .before .before in
       let a = b .before .before .before .args in
       Next (layout (a .column)) (now (a .s)) (b .literal-after .result) (c .before .before .literal-after2 .result)
-  second c = walk-goes-on (tells (c .before .before .literal-after2 .ensures)) (c .before .if3 .left) (c .if4 .left)
+  second c = walk-goes-on (tells (c .before .before .literal-after2 .ensures) (first (c .before .before .before) .below)) (c .before .if3 .left) (c .if4 .left)
 
 pub +walk-spec : {M : Type 1} → statement M
 +walk-spec = close μ-walk λ t. walk-lts.spec (
@@ -51,8 +51,8 @@ pub +walk-spec : {M : Type 1} → statement M
     (walk-at t)
     walk.Post
     (search needs)
-    (λ c. ended (tells (c .before .literal-after .ensures)) (c .if1 .taken))
-    (λ c. broken (tells (c .before .before .literal-after .ensures)) (omega arith) (c .if2 .taken))
+    (λ c. ended (tells (c .before .literal-after .ensures) (omega arith)) (c .if1 .taken))
+    (λ c. broken (tells (c .before .before .literal-after .ensures) (omega arith)) (omega arith) (c .if2 .taken))
     (λ c. let x = first t c in search needs)
     (search needs)
     (λ c. let x = first t c in omega arith)
@@ -61,11 +61,11 @@ pub +walk-spec : {M : Type 1} → statement M
     (λ c. simp length-set)
     (λ c.
     let x = first t (c .before .before) in
-    gone-on x (omega arith) (ended (tells (c .before .literal-after2 .ensures)) (c .if3 .taken)))
+    gone-on x (omega arith) (ended (tells (c .before .literal-after2 .ensures) (x .below)) (c .if3 .taken)))
     (λ c. simp length-set)
     (λ c.
     let x = first t (c .before .before .before) in
-    gone-on x (omega arith) (broken (tells (c .before .before .literal-after2 .ensures)) (omega arith) (c .if4 .taken)))
+    gone-on x (omega arith) (broken (tells (c .before .before .literal-after2 .ensures) (x .below)) (omega arith) (c .if4 .taken)))
     (λ c. let y = second t c in search needs)
     (search needs)
     (search needs)
