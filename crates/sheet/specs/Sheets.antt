@@ -33,19 +33,19 @@ chain (suc steps) s k =
       ok (next ∷ ns)
 
 -- records that hold a next and nothing else
-abbrev withNexts : List ℕ → List ℕ
-withNexts [] = []
-withNexts (n ∷ ns) = leBytes 2 n ++ replicate (recordSize - 2) 0 ++ withNexts ns
+abbrev nextsOnly : List ℕ → List ℕ
+nextsOnly [] = []
+nextsOnly (n ∷ ns) = leBytes 2 n ++ replicate (recordSize - 2) 0 ++ nextsOnly ns
 
 -- record 0's next is 2, and record 2's is 0: record 1 is off the chain, and what it says is ignored
-passed-over : chain 3 (withNexts (2 ∷ 9 ∷ 0 ∷ [])) 0 ≡ ok (2 ∷ [])
+passed-over : chain 3 (nextsOnly (2 ∷ 9 ∷ 0 ∷ [])) 0 ≡ ok (2 ∷ [])
 passed-over = refl
 
 -- record 2's next is not above 2, and record 1's not below 3
-points-back : chain 3 (withNexts (2 ∷ 0 ∷ 1 ∷ [])) 0 ≡ err Malformed
+points-back : chain 3 (nextsOnly (2 ∷ 0 ∷ 1 ∷ [])) 0 ≡ err Malformed
 points-back = refl
 
-past-the-last : chain 3 (withNexts (1 ∷ 3 ∷ 0 ∷ [])) 0 ≡ err Malformed
+past-the-last : chain 3 (nextsOnly (1 ∷ 3 ∷ 0 ∷ [])) 0 ≡ err Malformed
 past-the-last = refl
 
 -- ---- the head
