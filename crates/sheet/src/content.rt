@@ -1,5 +1,6 @@
 // Contents of records: whether they are UTF-8 where that is asked for, and the numbers that they are.
 use crate::literal::content_of;
+use crate::literal::record_of;
 use values::datatypes::PrimitiveType;
 use values::utf8::is_utf8;
 use values::words::i32_at;
@@ -22,8 +23,7 @@ pub fn literals_utf8(s: &[u8], records: &[u16], count: usize, column: PrimitiveT
 {
     let mut i = 0;
     while i < count {
-        let k = records[i] as usize;
-        if !is_utf8(content_of(s, k)) {
+        if !is_utf8(content_of(s, record_of(records, i))) {
             return false;
         }
         i += 1;

@@ -9,8 +9,8 @@ use values::words::i32_at;
 use values::words::i64_at;
 use values::words::u16_at;
 ghost use mathlib.Core.Path.{_≡_};
-ghost use Prim.Native.Nat.{_+_, _*_, _≤_};
-ghost use lib.ListN.{length};
+ghost use Prim.Native.Nat.{_+_, _*_, _≤_, _<_};
+ghost use lib.ListN.{length, getD};
 ghost use Rattle.values.specs.Types.{layout, contentSize};
 ghost use Rattle.values.specs.Words.{field};
 ghost use Rattle.sheet.specs.Records.{headerSize, recordSize, lengthIn, content, recordAt};
@@ -32,6 +32,14 @@ pub fn is_literal(s: &[u8], k: usize, column: PrimitiveType) -> bool
         return zeros(&*s, at + HEADER_SIZE + 8, CONTENT_SIZE - 8);
     }
     zeros(&*s, at + HEADER_SIZE + n, CONTENT_SIZE - n)
+}
+
+// The number of the record of literal i.
+pub fn record_of(records: &[u16], i: usize) -> usize
+    requires { ⌜ i < length (now records) ⌝ }
+    ensures { λ r. ⌜ r ≡ getD (now (records .entry)) i 0 ⌝ }
+{
+    records[i] as usize
 }
 
 // The content of record k, a part of the sheet.

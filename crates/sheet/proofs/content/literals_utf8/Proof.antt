@@ -22,21 +22,18 @@ Inv-loop s records count i₀ i =
 abbrev μ-loop : tie.MeasureT-loop
 μ-loop s records count i₀ i = count - i
 
-cast-k : tie.Need-cast-k Inv-loop μ-loop
-cast-k c = omega (arith, c .shared-slice-known3 .given (c .before .before .loop .i))
-
 content-of-requires : tie.Need-content-of-requires Inv-loop μ-loop
 content-of-requires c κs =
     let l = c .before .before in
     let e = l .before .before .before .pre .each (l .loop .i) (c .before .loop-test .taken) in
-    (e .there, e .short)
+    rw (c .record-of .ensures) (e .there, e .short)
 
 -- what the call says of the literal
 told : (c : tie.After-is-utf8 Inv-loop μ-loop)
     → let l = c .before .before .before .before in
     let a = l .before .before .before .args in
     utf8 (contentAt (a .s .now) (getD (a .records .now) (l .loop .i) 0)) ≡ c .is-utf8 .result
-told c = ap utf8 (sym (c .before .content-of .ensures)) ∙ sym (c .is-utf8 .ensures)
+told c = rw (← c .before .before .record-of .ensures, ← c .before .content-of .ensures) (sym (c .is-utf8 .ensures))
 
 returns : tie.Need-returns Inv-loop μ-loop
 returns c =
@@ -85,9 +82,7 @@ literals-utf8-spec =
     Inv-loop
     μ-loop
     (search needs)
-    (search needs)
-    (search needs)
-    cast-k
+    (λ c κs. search needs)
     content-of-requires
     (search needs)
     returns
