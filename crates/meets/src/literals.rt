@@ -4,6 +4,7 @@ use expr::test::bytes_meets;
 use expr::test::number_meets;
 use sheet::literal::content_of;
 use sheet::literal::number_of;
+use sheet::literal::record_of;
 use sheet::sheet::Sheet;
 use values::datatypes::PrimitiveType;
 use values::order::Ordering;
@@ -25,8 +26,7 @@ fn number_among(s: &[u8], records: &[u16], count: usize, column: PrimitiveType, 
 {
     let mut i = 0;
     while i < count {
-        let k = records[i] as usize;
-        if number_of(s, k, column) == v {
+        if number_of(s, record_of(records, i), column) == v {
             return true;
         }
         i += 1;
@@ -41,8 +41,7 @@ fn bytes_among(s: &[u8], records: &[u16], count: usize, column: PrimitiveType, v
 {
     let mut i = 0;
     while i < count {
-        let k = records[i] as usize;
-        if let Ordering::Equal = compare_bytes(v, content_of(s, k)) {
+        if let Ordering::Equal = compare_bytes(v, content_of(s, record_of(records, i))) {
             return true;
         }
         i += 1;
@@ -81,8 +80,7 @@ pub fn number_holds(x: Sheet, s: &[u8], records: &[u16], v: i64) -> bool
             if count == 0 {
                 return false;
             }
-            let k = records[0] as usize;
-            number_meets(operator, v, number_of(s, k, column))
+            number_meets(operator, v, number_of(s, record_of(records, 0), column))
         }
     }
 }
@@ -107,8 +105,7 @@ pub fn bytes_holds(x: Sheet, s: &[u8], records: &[u16], v: &[u8]) -> bool
             if count == 0 {
                 return false;
             }
-            let k = records[0] as usize;
-            bytes_meets(operator, v, content_of(s, k))
+            bytes_meets(operator, v, content_of(s, record_of(records, 0)))
         }
     }
 }

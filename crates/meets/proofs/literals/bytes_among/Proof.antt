@@ -25,23 +25,18 @@ Inv-loop s records count v i₀ i =
 abbrev μ-loop : tie.MeasureT-loop
 μ-loop s records count v i₀ i = count - i
 
-cast-k : tie.Need-cast-k Inv-loop μ-loop
-cast-k c = omega (arith, c .shared-slice-known4 .given (c .before .before .loop .i))
-
 content-of-requires : tie.Need-content-of-requires Inv-loop μ-loop
 content-of-requires c κs =
     let l = c .before .before in
     let e = l .before .before .before .before .pre .each (l .loop .i) (c .before .loop-test .taken) in
-    (e .there, e .short)
+    rw (c .record-of .ensures) (e .there, e .short)
 
 -- what the call says of the literal
 told : (c : tie.After-compare-bytes Inv-loop μ-loop)
     → let l = c .before .before .before .before in
     let a = l .before .before .before .before .args in
     compareBytes (a .v .now) (contentAt (a .s .now) (getD (a .records .now) (l .loop .i) 0)) ≡ c .compare-bytes .result
-told c =
-    let a = c .before .before .before .before .before .before .before .before .args in
-    ap (compareBytes (a .v .now)) (sym (c .before .content-of .ensures)) ∙ sym (c .compare-bytes .ensures)
+told c = rw (← c .before .before .record-of .ensures, ← c .before .content-of .ensures) (sym (c .compare-bytes .ensures))
 
 returns : tie.Need-returns Inv-loop μ-loop
 returns c =
@@ -92,9 +87,7 @@ bytes-among-spec =
     Inv-loop
     μ-loop
     (search needs)
-    (search needs)
-    (search needs)
-    cast-k
+    (λ c κs. search needs)
     content-of-requires
     (search needs)
     (search needs)

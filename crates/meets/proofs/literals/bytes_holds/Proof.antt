@@ -22,14 +22,11 @@ returns c =
     (now (a .v))
     (c .if1 .taken)
 
-cast-k : tie.Need-cast-k
-cast-k c = omega (arith, c .shared-slice-known4 .given 0)
-
 content-of-requires : tie.Need-content-of-requires
 content-of-requires c κs =
     let start = c .before .before .before .before .before .before .before in
     let e = start .pre .each 0 (omega arith) in
-    (e .there, e .short)
+    rw (c .record-of .ensures) (e .there, e .short)
 
 returns-8 : tie.Need-returns-8
 returns-8 c =
@@ -46,7 +43,7 @@ returns-8 c =
     (now (a .v))
     (c .before .before .before .if1 .left)
     (start .pre .room)
-    (c .bytes-meets .ensures ∙ rw (c .before .content-of .ensures))
+    (c .bytes-meets .ensures ∙ rw (c .before .content-of .ensures, c .before .before .record-of .ensures))
 
 pub bytes-holds-spec : {M : Type 1} → statement M
 bytes-holds-spec =
@@ -61,8 +58,7 @@ bytes-holds-spec =
     (search needs)
     (λ c κs. search needs)
     returns
-    (search needs)
-    cast-k
+    (λ c κs. search needs)
     content-of-requires
     (search needs)
     (λ c. search arms)

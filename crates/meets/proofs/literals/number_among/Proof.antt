@@ -3,7 +3,7 @@
 use Prim.Native.Nat.{_≤_, _-_}
 use native.Mathlib.Omega.{arith}
 use mathlib.Core.List.{map}
-use mathlib.Core.Path.{_≡_}
+use mathlib.Core.Path.{_≡_, _∙_}
 use lib.ListN.{take}
 use lib.Seq.{slice}
 use mir.Syntax.{w64}
@@ -27,12 +27,10 @@ Inv-loop s records count column v i₀ i =
 abbrev μ-loop : tie.MeasureT-loop
 μ-loop s records count column v i₀ i = count - i
 
-cast-k : tie.Need-cast-k Inv-loop μ-loop
-cast-k c = omega (arith, c .shared-slice-known3 .given (c .before .before .loop .i))
-
 number-of-requires : tie.Need-number-of-requires Inv-loop μ-loop
 number-of-requires c κs =
-    c .before .before .before .before .before .pre .each (c .before .before .loop .i) (c .before .loop-test .taken) .there
+    let e = c .before .before .before .before .before .pre .each (c .before .before .loop .i) (c .before .loop-test .taken) in
+    rw (c .record-of .ensures) (e .there)
 
 returns : tie.Need-returns Inv-loop μ-loop
 returns c =
@@ -50,7 +48,7 @@ returns c =
     (l .loop .inv .1)
     (t .loop-test .taken)
     (start .pre .room)
-    (equal-here (start .fits .v) (ok _ (n .ok)) (n .ensures .0) (c .if1 .taken)))
+    (equal-here (start .fits .v) (ok _ (n .ok)) (n .ensures .0 ∙ rw (c .before .before .record-of .ensures)) (c .if1 .taken)))
 
 loop-again : tie.Need-loop-again Inv-loop μ-loop
 loop-again c =
@@ -68,7 +66,7 @@ loop-again c =
           (l .loop .inv .1)
           (t .loop-test .taken)
           (start .pre .room)
-          (other-here (start .fits .v) (ok _ (n .ok)) (n .ensures .0) (c .if1 .left)),
+          (other-here (start .fits .v) (ok _ (n .ok)) (n .ensures .0 ∙ rw (c .before .before .record-of .ensures)) (c .if1 .left)),
     )
 
 returns-2 : tie.Need-returns-2 Inv-loop μ-loop
@@ -86,9 +84,7 @@ number-among-spec =
     Inv-loop
     μ-loop
     (search needs)
-    (search needs)
-    (search needs)
-    cast-k
+    (λ c κs. search needs)
     number-of-requires
     returns
     (search needs)

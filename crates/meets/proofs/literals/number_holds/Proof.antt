@@ -24,14 +24,11 @@ returns c =
     (a .v)
     (c .if1 .taken)
 
-cast-k : tie.Need-cast-k
-cast-k c = omega (arith, c .shared-slice-known3 .given 0)
-
 number-of-requires : tie.Need-number-of-requires
 number-of-requires c κs =
     let start = c .before .before .before .before .before .before in
     let e = start .pre .each 0 (omega arith) in
-    e .there
+    rw (c .record-of .ensures) (e .there)
 
 returns-6 : tie.Need-returns-6
 returns-6 c =
@@ -58,7 +55,7 @@ returns-8 c =
     (a .v)
     (c .before .before .before .if1 .left)
     (start .pre .room)
-    (c .number-meets .ensures ∙ rw (back (start .fits .v), back (ok _ (c .before .number-of .ok)), c .before .number-of .ensures .0))
+    (c .number-meets .ensures ∙ rw (back (start .fits .v), back (ok _ (c .before .number-of .ok)), c .before .number-of .ensures .0, c .before .before .record-of .ensures))
 
 pub number-holds-spec : {M : Type 1} → statement M
 number-holds-spec =
@@ -73,8 +70,7 @@ number-holds-spec =
     (search needs)
     (λ c κs. search needs)
     returns
-    (search needs)
-    cast-k
+    (λ c κs. search needs)
     number-of-requires
     (search needs)
     (λ c. search arms)
