@@ -1,4 +1,5 @@
 // The routines under C's names, for programs in other languages: document 01's number is returned, and the count of bytes written is set in every case.
+use answers::answer::Answer;
 use api::holds::holds;
 use api::literal::transform_literal;
 use api::project::project;
@@ -11,15 +12,22 @@ ghost use Rattle.meets.specs.Tested.{heldAs, heldNumber};
 ghost use Rattle.api.specs.HoldsTest.{holdsTest};
 ghost use Rattle.api.specs.Routines.{projectSheet, transformValue, valueBuffer, answered, leftIn};
 
+// Sets the count of an answer, and gives its number.
+fn told(answer: Answer, count: &mut u64) -> u32
+    ensures number { λ r. ⌜ r ≡ answerNumber answer ⌝ }
+    ensures written { λ _. ⌜ now (count .exit) ≡ answerCount answer ⌝ }
+{
+    *count = answer.count() as u64;
+    answer.number()
+}
+
 #[no_mangle]
 pub extern "C" fn weighpick_project(sheet: &[u8], out: &mut [u8], count: &mut u64) -> u32
     ensures number { λ r. ⌜ r ≡ answerNumber (answered sheetBuffer (now (out .entry)) (projectSheet Inclusive (now (sheet .entry)))) ⌝ }
     ensures written { λ _. ⌜ now (count .exit) ≡ answerCount (answered sheetBuffer (now (out .entry)) (projectSheet Inclusive (now (sheet .entry)))) ⌝ }
     ensures buffer { λ _. ⌜ now (out .exit) ≡ leftIn sheetBuffer (now (out .entry)) (projectSheet Inclusive (now (sheet .entry))) ⌝ }
 {
-    let answer = project(sheet, out);
-    *count = answer.count() as u64;
-    answer.number()
+    told(project(sheet, out), count)
 }
 
 #[no_mangle]
@@ -28,9 +36,7 @@ pub extern "C" fn weighpick_strict_project(sheet: &[u8], out: &mut [u8], count: 
     ensures written { λ _. ⌜ now (count .exit) ≡ answerCount (answered sheetBuffer (now (out .entry)) (projectSheet Strict (now (sheet .entry)))) ⌝ }
     ensures buffer { λ _. ⌜ now (out .exit) ≡ leftIn sheetBuffer (now (out .entry)) (projectSheet Strict (now (sheet .entry))) ⌝ }
 {
-    let answer = strict_project(sheet, out);
-    *count = answer.count() as u64;
-    answer.number()
+    told(strict_project(sheet, out), count)
 }
 
 #[no_mangle]
@@ -46,9 +52,10 @@ pub extern "C" fn weighpick_transform(
     ensures written { λ _. ⌜ now (count .exit) ≡ answerCount (answered valueBuffer (now (out .entry)) (asResult (transformValue «column_type» transform width (now (value .entry))))) ⌝ }
     ensures buffer { λ _. ⌜ now (out .exit) ≡ leftIn valueBuffer (now (out .entry)) (asResult (transformValue «column_type» transform width (now (value .entry)))) ⌝ }
 {
-    let answer = transform_literal(column_type, transform, width, value, out);
-    *count = answer.count() as u64;
-    answer.number()
+    told(
+        transform_literal(column_type, transform, width, value, out),
+        count,
+    )
 }
 
 #[no_mangle]
