@@ -13,9 +13,9 @@ use Rattle.values.specs.laws.SignedLaws.{back}
 use Rattle.values.specs.laws.OutcomeLaws.{ok-inj, ok-not-err, gone}
 use Rattle.values.specs.Outcomes.{Res, ok, err, _>>=_, Row, missing, present}
 use Rattle.values.specs.laws.RangeLaws.{in-long}
-use Rattle.values.specs.Types.{inType}
+use Rattle.values.specs.Types.{inType, sameType}
 use Rattle.values.specs.declared.datatypes.PrimitiveType.{PrimitiveType}
-use Rattle.values.specs.declared.datatypes.PrimitiveType.the-variants.{Long}
+use Rattle.values.specs.declared.datatypes.PrimitiveType.the-variants.{Long, Timestamp}
 use Rattle.values.specs.declared.error.ErrorKind.{ErrorKind}
 use Rattle.values.specs.declared.error.ErrorKind.the-variants.{FeatureUnsupported, Overflow}
 use Rattle.values.specs.declared.transform.Transform.{Transform}
@@ -108,6 +108,9 @@ at-one is h = rw is at h
 pub ruleset literals = (boundary-refused, literal-missing, literal-value, literal-refused, at-one)
 
 -- ---- lifting
+pub of-column : {column kind : PrimitiveType} {b : Bool} → column ≡ kind → b ≡ sameType kind Timestamp → b ≡ sameType column Timestamp
+of-column is e = rw is e
+
 negative : (t : ℤ) → t <ℤ pos 0 → (n : ℕ) × (t ≡ negsuc n)
 negative (pos n) h = let z : ⊥ = omega ints in absurd z
 negative (negsuc n) h = (n, refl)

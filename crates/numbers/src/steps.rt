@@ -10,6 +10,8 @@ ghost use mathlib.Core.Bool.{true};
 ghost use mathlib.Core.Path.{_≡_};
 ghost use lib.IntN.{sucℤ, predℤ};
 ghost use Rattle.values.specs.Outcomes.{ok};
+ghost use Rattle.values.specs.Types.{sameType};
+ghost use Rattle.values.specs.declared.datatypes.PrimitiveType.the-variants.{Timestamp};
 ghost use Rattle.expr.specs.Operators.{byArity, takesOne};
 ghost use Rattle.projection.specs.Lifting.{lifted, lift};
 ghost use Rattle.projection.specs.Projection.{numberUnder};
@@ -108,6 +110,24 @@ fn project_boundary(
     }
 }
 
+// Whether Day of a column is lifted: of Timestamp only.
+fn lifts_day(column: PrimitiveType) -> bool
+    ensures { λ r. ⌜ r ≡ sameType column Timestamp ⌝ }
+{
+    match column {
+        PrimitiveType::Int => false,
+        PrimitiveType::Long => false,
+        PrimitiveType::Date => false,
+        PrimitiveType::Time => false,
+        PrimitiveType::Timestamp => true,
+        PrimitiveType::Timestamptz => false,
+        PrimitiveType::TimestampNs => false,
+        PrimitiveType::TimestamptzNs => false,
+        PrimitiveType::String => false,
+        PrimitiveType::Binary => false,
+    }
+}
+
 // Whether document 01 lifts the transform of a column.
 pub fn is_lifted(column: PrimitiveType, transform: Transform) -> bool
     ensures { λ r. ⌜ r ≡ lifted column transform ⌝ }
@@ -115,13 +135,7 @@ pub fn is_lifted(column: PrimitiveType, transform: Transform) -> bool
     match transform {
         Transform::Year => true,
         Transform::Month => true,
-        Transform::Day => {
-            if let PrimitiveType::Timestamp = column {
-                true
-            } else {
-                false
-            }
-        }
+        Transform::Day => lifts_day(column),
         _ => false,
     }
 }
@@ -133,8 +147,9 @@ fn adjust_time_projection(operator: PredicateOperator, t: i64) -> NumberProjecti
     ensures one { λ r. ⌜ OneIn r ⌝ }
 {
     if t < 0 {
+        let above = t + 1;
         match operator {
-            PredicateOperator::LessThanOrEq => NumberProjection::One(operator, t + 1),
+            PredicateOperator::LessThanOrEq => NumberProjection::One(operator, above),
             PredicateOperator::Eq => NumberProjection::Two(t),
             _ => NumberProjection::One(operator, t),
         }

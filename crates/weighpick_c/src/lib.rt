@@ -1,4 +1,5 @@
 // The routines under C's names, for programs in other languages: document 01's number is returned, and the count of bytes written is set in every case.
+use answers::answer::Answer;
 use api::holds::holds;
 use api::literal::transform_literal;
 use api::project::project;
@@ -10,15 +11,22 @@ ghost use Rattle.meets.specs.Tested.{heldAs, heldNumber};
 ghost use Rattle.api.specs.HoldsTest.{holdsTest};
 ghost use Rattle.api.specs.Routines.{projectAnswer, projectLeaves, transformAnswer, transformLeaves};
 
+// Sets the count of an answer, and gives its number.
+fn told(answer: Answer, count: &mut u64) -> u32
+    ensures number { λ r. ⌜ r ≡ answerNumber answer ⌝ }
+    ensures written { λ _. ⌜ now (count .exit) ≡ answerCount answer ⌝ }
+{
+    *count = answer.count() as u64;
+    answer.number()
+}
+
 #[no_mangle]
 pub extern "C" fn weighpick_project(sheet: &[u8], out: &mut [u8], count: &mut u64) -> u32
     ensures number { λ r. ⌜ r ≡ answerNumber (projectAnswer Inclusive (now (sheet .entry)) (now (out .entry))) ⌝ }
     ensures written { λ _. ⌜ now (count .exit) ≡ answerCount (projectAnswer Inclusive (now (sheet .entry)) (now (out .entry))) ⌝ }
     ensures buffer { λ _. ⌜ now (out .exit) ≡ projectLeaves Inclusive (now (sheet .entry)) (now (out .entry)) ⌝ }
 {
-    let answer = project(sheet, out);
-    *count = answer.count() as u64;
-    answer.number()
+    told(project(sheet, out), count)
 }
 
 #[no_mangle]
@@ -27,9 +35,7 @@ pub extern "C" fn weighpick_strict_project(sheet: &[u8], out: &mut [u8], count: 
     ensures written { λ _. ⌜ now (count .exit) ≡ answerCount (projectAnswer Strict (now (sheet .entry)) (now (out .entry))) ⌝ }
     ensures buffer { λ _. ⌜ now (out .exit) ≡ projectLeaves Strict (now (sheet .entry)) (now (out .entry)) ⌝ }
 {
-    let answer = strict_project(sheet, out);
-    *count = answer.count() as u64;
-    answer.number()
+    told(strict_project(sheet, out), count)
 }
 
 #[no_mangle]
@@ -45,9 +51,10 @@ pub extern "C" fn weighpick_transform(
     ensures written { λ _. ⌜ now (count .exit) ≡ answerCount (transformAnswer «column_type» transform width (now (value .entry)) (now (out .entry))) ⌝ }
     ensures buffer { λ _. ⌜ now (out .exit) ≡ transformLeaves «column_type» transform width (now (value .entry)) (now (out .entry)) ⌝ }
 {
-    let answer = transform_literal(column_type, transform, width, value, out);
-    *count = answer.count() as u64;
-    answer.number()
+    told(
+        transform_literal(column_type, transform, width, value, out),
+        count,
+    )
 }
 
 #[no_mangle]

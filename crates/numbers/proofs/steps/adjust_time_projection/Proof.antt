@@ -21,8 +21,8 @@ module _ (c : tie.Then1) where
       let h = negative in
       omega (ints, plus t (pos 1))
 
-add-t6 : tie.Need-add-t6
-add-t6 c = let g = above-fits (c .before .before) in search needs
+add-above : tie.Need-add-above
+add-above c = let g = above-fits c in search needs
 
 returns : tie.Need-returns
 returns c =
@@ -44,4 +44,4 @@ returns-4 c = let s = c .before in (lifted-kept (s .args .operator) (s .args .t)
 
 pub adjust-time-projection-spec : {M : Type 1} → statement M
 adjust-time-projection-spec =
-    tie.close (tie.spec (search needs) add-t6 (search needs) returns returns-2 returns-3 returns-4)
+    tie.close (tie.spec add-above (search needs) (search needs) returns returns-2 returns-3 returns-4)
