@@ -34,7 +34,7 @@ pub enum NumberProjection {
     Err(ErrorKind),
 }
 
-// L+1, and below L−1: 8 where it leaves the column's type.
+// L+1, and L−1 in the next function: 8 where it leaves the column's type.
 fn try_increment_number(column: PrimitiveType, operator: PredicateOperator, v: i64) -> Boundary
     ensures { λ r. ⌜ r ≡ neighbour column operator (sucℤ v) ⌝ }
 {
@@ -68,11 +68,9 @@ fn adjust_boundary(column: PrimitiveType, operator: PredicateOperator, l: i64) -
     ensures { λ r. ⌜ r ≡ inclusiveBoundary column (byArity operator) l ⌝ }
 {
     match operator {
-        PredicateOperator::LessThan => try_decrement_number(
-            column,
-            PredicateOperator::LessThanOrEq,
-            l,
-        ),
+        PredicateOperator::LessThan => {
+            try_decrement_number(column, PredicateOperator::LessThanOrEq, l)
+        }
         PredicateOperator::GreaterThan => {
             try_increment_number(column, PredicateOperator::GreaterThanOrEq, l)
         }
@@ -90,11 +88,9 @@ fn strict_boundary(column: PrimitiveType, operator: PredicateOperator, l: i64) -
     ensures { λ r. ⌜ r ≡ strictBoundary column (byArity operator) l ⌝ }
 {
     match operator {
-        PredicateOperator::LessThanOrEq => try_increment_number(
-            column,
-            PredicateOperator::LessThan,
-            l,
-        ),
+        PredicateOperator::LessThanOrEq => {
+            try_increment_number(column, PredicateOperator::LessThan, l)
+        }
         PredicateOperator::GreaterThanOrEq => {
             try_decrement_number(column, PredicateOperator::GreaterThan, l)
         }
