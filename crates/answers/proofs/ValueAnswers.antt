@@ -12,7 +12,6 @@ use Rattle.values.specs.Outcomes.{Res, ok, err, Row, missing, present}
 use Rattle.values.specs.Types.{layout, contentSize, isBytes, fits}
 use Rattle.values.specs.Words.{over}
 use Rattle.values.specs.declared.datatypes.PrimitiveType.{PrimitiveType}
-use Rattle.values.specs.declared.datatypes.TypeResult.the-variants as type-result
 use Rattle.values.specs.declared.error.ErrorKind.{ErrorKind}
 use Rattle.values.specs.declared.transform.Transform.{Transform}
 use Rattle.partition.specs.code.PartitionAnswers.{numberResult, bytesResult, InType, OfPresent}
@@ -25,7 +24,6 @@ use Rattle.partition.specs.declared.number.NumberResult.the-variants as number-
 use Rattle.projection.specs.laws.LandingLaws.{number-partition-lands}
 use Rattle.sheet.specs.laws.RecordLaws.{fits-room, number-type}
 use Rattle.sheet.specs.Records.{recordSize, value}
-use Rattle.sheet.specs.declared.value.ValueResult.the-variants as value-result
 use Rattle.sets.specs.laws.TransformedLaws.{value-said}
 use Rattle.write.specs.laws.RoundTripLaws.{length-literal}
 use Rattle.write.specs.laws.WriteLaws.{length-number}

@@ -4,7 +4,7 @@ use Prim.Native.Nat.{ℕ, _≤_, _<_}
 use native.Mathlib.Omega.{arith}
 use mathlib.Core.Bool.{true≢false}
 use mathlib.Core.List.{List, [], _∷_}
-use mathlib.Core.Path.{_≡_, refl, sym, ap, subst, _∙_}
+use mathlib.Core.Path.{_≡_, sym, ap, subst, _∙_}
 use lib.ListN.{length}
 use borrow.Author.Tests.{leb-true, le-leb}
 use Rattle.values.specs.Ascending.{AllOf}
@@ -52,7 +52,8 @@ bytes-above String n e = omega arith
 bytes-above Binary n e = omega arith
 
 -- the result type is one of byte strings
-pub bytes-result : (column to : PrimitiveType) (transform : Transform) (n : ℕ) → layout column ≡ bytes n → resultType transform column ≡ ok to → layout to ≡ bytes n
+pub bytes-result : (column to : PrimitiveType) (transform : Transform) (n : ℕ) → layout column ≡ bytes n → resultType transform column ≡ ok to
+    → layout to ≡ bytes n
 unfolding resultType
 bytes-result column to Identity n is e = ap layout (sym (ok-inj e)) ∙ is
 bytes-result column to (Truncate width) n is e = ap layout (sym (listed-to truncatable column column e)) ∙ is

@@ -6,7 +6,7 @@ use mathlib.Core.List.{List}
 use mathlib.Core.Logic.{_⊎_, inl, inr, ⊎-elim, _↔_}
 use mathlib.Core.Path.{_≡_, refl, sym, ap, subst, _∙_}
 use lib.IntN.{ℤ, sucℤ}
-use Rattle.values.specs.Outcomes.{ok, Row, missing, present}
+use Rattle.values.specs.Outcomes.{Row, missing, present}
 use Rattle.values.specs.laws.OutcomeLaws.{ok-inj}
 use Rattle.values.specs.Types.{number, layout, inType}
 use Rattle.values.specs.laws.WordLaws.{signed-bytes}

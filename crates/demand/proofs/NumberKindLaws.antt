@@ -93,8 +93,8 @@ number-literals question column to transform result l p h e =
     let x = numbers-land question column to transform l p result (h .all) e in
     record { all = x .all; count = omega (arith, x .count, h .count) }
 
-unfoldable pub number-kind : (column to : PrimitiveType) (transform : Transform) (n : ℕ) → layout column ≡ number n → known transform ≡ true → resultType transform column ≡ ok to
-    → KindLaws column to transform (numbers column transform n)
+unfoldable pub number-kind : (column to : PrimitiveType) (transform : Transform) (n : ℕ) → layout column ≡ number n → known transform ≡ true
+    → resultType transform column ≡ ok to → KindLaws column to transform (numbers column transform n)
 unfolding number-values transformedRow
 number-kind column to transform n is k result =
     let m = number-result column to transform k result n is in

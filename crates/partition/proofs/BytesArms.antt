@@ -30,7 +30,8 @@ module _ (ty : PrimitiveType) (tr : Transform) (here : Bool) (s : List ℕ) (k :
   unfolding bytesPartition partition
   bytes-missing e h = rw (← is, e, h)
 
-  pub bytes-present : (r : BytesResult) → k ≡ true → here ≡ true → r ≡ bytesResult (transformBytes ty tr s) → r ≡ bytesResult (bytesPartition ty tr (row here s))
+  pub bytes-present : (r : BytesResult) → k ≡ true → here ≡ true → r ≡ bytesResult (transformBytes ty tr s)
+      → r ≡ bytesResult (bytesPartition ty tr (row here s))
   unfolding bytesPartition partition
   bytes-present r e h q = rw (← is, e, h) q
 

@@ -140,7 +140,8 @@ pub ruleset hours = (hour-fits, hour-wide, hour-of, no-hour, units)
 
 -- ---- a present number
 module _ (ty : PrimitiveType) (tr : Transform) (v : ℤ) (f : SFits w64 v) where
-  pub literal-arm : (arm : Transform) (r : NumberResult) → tr ≡ arm → r ≡ numberResult (transformNumber ty arm (seen v)) → r ≡ numberResult (transformNumber ty tr v)
+  pub literal-arm : (arm : Transform) (r : NumberResult) → tr ≡ arm → r ≡ numberResult (transformNumber ty arm (seen v))
+      → r ≡ numberResult (transformNumber ty tr v)
   literal-arm arm r a h = rw a (rw (back f) at h)
 
 pub seen-inside : (ty : PrimitiveType) (v : ℤ) → SFits w64 v → inType ty v ≡ true → inType ty (seen v) ≡ true
@@ -158,12 +159,14 @@ module _ (ty : PrimitiveType) (tr : Transform) (row : NumberRow) (k : Bool) (is 
   unfolding numberPartition partition
   row-missing e h = rw (← is, e, h)
 
-  pub row-present : (v : ℤ) (f : SFits w64 v) (r : NumberResult) → k ≡ true → row ≡ number-row.Present v → r ≡ numberResult (transformNumber ty tr (seen v)) → r ≡ numberResult (numberPartition ty tr (numberRow row))
+  pub row-present : (v : ℤ) (f : SFits w64 v) (r : NumberResult) → k ≡ true → row ≡ number-row.Present v
+      → r ≡ numberResult (transformNumber ty tr (seen v)) → r ≡ numberResult (numberPartition ty tr (numberRow row))
   unfolding numberPartition partition
   row-present v f r e h q = rw (← is, e, h) (rw (back f) at q)
 
 -- a number that a row holds is of the column's type
-pub row-inside : (ty : PrimitiveType) (row : NumberRow) (v : ℤ) → SFits w64 v → OfPresent (InType ty) (numberRow row) → row ≡ number-row.Present v → inType ty (seen v) ≡ true
+pub row-inside : (ty : PrimitiveType) (row : NumberRow) (v : ℤ) → SFits w64 v → OfPresent (InType ty) (numberRow row) → row ≡ number-row.Present v
+    → inType ty (seen v) ≡ true
 row-inside ty row v f h e = rw (back f) (rw e at h)
 
 pub ruleset rows = (row-refused, row-missing, row-present, row-inside)

@@ -18,7 +18,8 @@ ghost use Rattle.values.specs.Types.{sameType, inType};
 ghost use Rattle.values.specs.declared.datatypes.PrimitiveType.the-variants.{Int};
 ghost use Rattle.transform.specs.Calendar.{yearOf, monthOf};
 ghost use Rattle.transform.specs.Temporal.{unitOf, dayOf};
-ghost use Rattle.partition.specs.Partition.{widestIntWidth, outsideCalendar, byCalendar, dayNumber, intHour, hourNumber, truncateNumber, transformNumber, numberPartition};
+ghost use Rattle.partition.specs.Partition.{outsideCalendar, byCalendar, dayNumber, intHour, hourNumber};
+ghost use Rattle.partition.specs.Partition.{widestIntWidth, truncateNumber, transformNumber, numberPartition};
 ghost use Rattle.partition.specs.code.PartitionAnswers.{dayResult, numberResult, numberRow, InType, OfPresent};
 
 // What a transform makes of a number.

@@ -8,7 +8,7 @@ use mathlib.Core.Path.{_≡_, refl, sym, ap, subst, _∙_}
 use lib.Dec.{ltb, leb}
 use lib.IntN.{ℤ, pos}
 use lib.Signed.{_≤ℤ_}
-use Rattle.values.specs.Outcomes.{Res, ok, err, _>>=_, _>>_, Row, missing, present}
+use Rattle.values.specs.Outcomes.{Res, ok, _>>=_, _>>_, Row, missing, present}
 use Rattle.values.specs.laws.OutcomeLaws.{ok-inj, present-inj, ok-not-err, missing-not-present, passed, gone}
 use Rattle.values.specs.laws.IntLaws.{ints, neg}
 use Rattle.values.specs.laws.RangeLaws.{in-type, in-int, in-type-long, four}
@@ -46,19 +46,19 @@ truncates-by ty v width e =
     let c = passed (inType ty (truncated width v)) Overflow _ (b .1) in
     record { inside = c .0; value = ok-inj (c .1) }
 
+pub record Counts (ty : PrimitiveType) (v : ℤ) (count : ℤ → ℤ) (r : Row ℤ) : Type 0 where
+  pub day : ℤ
+  pub day-is : dayOf ty v ≡ ok day
+  pub inside : inCalendar day ≡ true
+  pub value : present (count day) ≡ r
+
+counts-by : (ty : PrimitiveType) (v : ℤ) (count : ℤ → ℤ) {r : Row ℤ} → byCalendar count ty v ≡ ok r → Counts ty v count r
+counts-by ty v count e =
+    let a = gone (dayOf ty v) _ e in
+    let b = passed (inCalendar (a .0)) (outsideCalendar (unitOf ty)) _ (a .2) in
+    record { day = a .0; day-is = a .1; inside = b .0; value = ok-inj (b .1) }
+
 module _ (ty : PrimitiveType) (v p : ℤ) where
-  pub record Counts (count : ℤ → ℤ) : Type 0 where
-    pub day : ℤ
-    pub day-is : dayOf ty v ≡ ok day
-    pub inside : inCalendar day ≡ true
-    pub value : count day ≡ p
-
-  counts-by : (count : ℤ → ℤ) → byCalendar count ty v ≡ ok (present p) → Counts count
-  counts-by count e =
-      let a = gone (dayOf ty v) _ e in
-      let b = passed (inCalendar (a .0)) (outsideCalendar (unitOf ty)) _ (a .2) in
-      record { day = a .0; day-is = a .1; inside = b .0; value = value-is (b .1) }
-
   day-by : dayNumber ty v ≡ ok (present p) → dayOf ty v ≡ ok p
   day-by e = let a = gone (dayOf ty v) _ e in a .1 ∙ ap ok (value-is (a .2))
 
@@ -107,9 +107,9 @@ module _ (ty : PrimitiveType) (v w d e : ℤ) where
 module _ (ty : PrimitiveType) (v w p q : ℤ) where
   calendar-mono : (count : ℤ → ℤ) → ((d e : ℤ) → d ≤ℤ e → count d ≤ℤ count e) → byCalendar count ty v ≡ ok (present p) → byCalendar count ty w ≡ ok (present q) → v ≤ℤ w → p ≤ℤ q
   calendar-mono count mono a b h =
-      let x = counts-by ty v p count a in
-      let y = counts-by ty w q count b in
-      rw (← x .value, ← y .value) (mono (x .day) (y .day) (day-mono ty v w (x .day) (y .day) (x .day-is) (y .day-is) h))
+      let x = counts-by ty v count a in
+      let y = counts-by ty w count b in
+      rw (← present-inj (x .value), ← present-inj (y .value)) (mono (x .day) (y .day) (day-mono ty v w (x .day) (y .day) (x .day-is) (y .day-is) h))
 
   by-mono : (tr : Transform) → transformNumber ty tr v ≡ ok (present p) → transformNumber ty tr w ≡ ok (present q) → v ≤ℤ w → p ≤ℤ q
   unfolding transformNumber
@@ -160,18 +160,19 @@ day-lands ty v d h e = go (unitOf ty) refl (quotient v (perDay (unitOf ty)) e)
 pub listed-to : (types : List PrimitiveType) (ty t : PrimitiveType) {to : PrimitiveType} → forTypes types ty t ≡ ok to → t ≡ to
 listed-to types ty t e = ok-inj (passed (isOneOf ty types) NoResultType _ e .1)
 
-pub number-lands : (ty to : PrimitiveType) (tr : Transform) (v p : ℤ) → resultType tr ty ≡ ok to → inType ty v ≡ true → transformNumber ty tr v ≡ ok (present p) → inType to p ≡ true
+pub number-lands : (ty to : PrimitiveType) (tr : Transform) (v p : ℤ) → resultType tr ty ≡ ok to → inType ty v ≡ true → transformNumber ty tr v ≡ ok (present p)
+    → inType to p ≡ true
 unfolding resultType transformNumber
 number-lands ty to Identity v p r h e = rw (← ok-inj r, ← value-is e) h
 number-lands ty to (Truncate width) v p r h e = let x = truncates-by ty v width e in rw (← listed-to truncatable ty ty r, ← present-inj (x .value)) (x .inside)
 number-lands ty to Year v p r h e =
-    let x = counts-by ty v p yearOf e in
+    let x = counts-by ty v yearOf e in
     let k = yearOf-range (x .day) (x .inside) in
-    rw (← listed-to withDays ty Int r, ← x .value) (in-int (yearOf (x .day)) .1 (omega (ints, k .0, k .1, neg (pos 264113))))
+    rw (← listed-to withDays ty Int r, ← present-inj (x .value)) (in-int (yearOf (x .day)) .1 (omega (ints, k .0, k .1, neg (pos 264113))))
 number-lands ty to Month v p r h e =
-    let x = counts-by ty v p monthOf e in
+    let x = counts-by ty v monthOf e in
     let k = monthOf-range (x .day) (x .inside) in
-    rw (← listed-to withDays ty Int r, ← x .value) (in-int (monthOf (x .day)) .1 (omega (ints, k .0, k .1, neg (pos 3169356))))
+    rw (← listed-to withDays ty Int r, ← present-inj (x .value)) (in-int (monthOf (x .day)) .1 (omega (ints, k .0, k .1, neg (pos 3169356))))
 number-lands ty to Day v p r h e = rw (← listed-to withDays ty Date r) (day-lands ty v p h (day-by ty v p e))
 number-lands ty to Hour v p r h e = rw (← listed-to withHours ty Int r) (hour-by ty v p e .1)
 number-lands ty to Void v p r h e = missing-not-present (ok-inj e)
@@ -200,8 +201,8 @@ pub number-missing : (ty : PrimitiveType) (tr : Transform) (v : ℤ) → transfo
 unfolding transformNumber
 number-missing ty Identity v e = missing-not-present (ok-inj (sym e))
 number-missing ty (Truncate width) v e = missing-not-present (sym (truncates-by ty v width e .value))
-number-missing ty Year v e = let a = gone (dayOf ty v) _ e in missing-not-present (ok-inj (sym (passed (inCalendar (a .0)) (outsideCalendar (unitOf ty)) _ (a .2) .1)))
-number-missing ty Month v e = let a = gone (dayOf ty v) _ e in missing-not-present (ok-inj (sym (passed (inCalendar (a .0)) (outsideCalendar (unitOf ty)) _ (a .2) .1)))
+number-missing ty Year v e = missing-not-present (sym (counts-by ty v yearOf e .value))
+number-missing ty Month v e = missing-not-present (sym (counts-by ty v monthOf e .value))
 number-missing ty Day v e = let a = gone (dayOf ty v) _ e in missing-not-present (ok-inj (sym (a .2)))
 number-missing ty Hour v e = let a = gone (hourOf ty v) _ e in missing-not-present (ok-inj (sym (passed (inType Int (a .0)) Overflow _ (a .2) .1)))
 number-missing ty Void v e = refl

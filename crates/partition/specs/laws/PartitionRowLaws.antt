@@ -31,10 +31,12 @@ module _ (column : PrimitiveType) (transform : Transform) where
   bytes-rows h = rows (transformBytes column transform) h
 
   -- of a row that has a partition value
-  pub number-row : (r p : Row ℤ) → numberPartition column transform r ≡ ok p → (known transform ≡ true) × (ofRow (transformNumber column transform) r ≡ ok p)
+  pub number-row : (r p : Row ℤ) → numberPartition column transform r ≡ ok p
+      → (known transform ≡ true) × (ofRow (transformNumber column transform) r ≡ ok p)
   unfolding numberPartition
   number-row r p e = row (transformNumber column transform) r p e
 
-  pub bytes-row : (r p : Row (List ℕ)) → bytesPartition column transform r ≡ ok p → (known transform ≡ true) × (ofRow (transformBytes column transform) r ≡ ok p)
+  pub bytes-row : (r p : Row (List ℕ)) → bytesPartition column transform r ≡ ok p
+      → (known transform ≡ true) × (ofRow (transformBytes column transform) r ≡ ok p)
   unfolding bytesPartition
   bytes-row r p e = row (transformBytes column transform) r p e

@@ -120,7 +120,8 @@ module _ (g : List ℕ → Type 0) (begins : (s : List ℕ) (k : ℕ) → g s �
       land question column transform g g (begin-keeps column transform) (λ l k. k) leaf x fine e .all
 
 -- a String's values are UTF-8 as it is
-held-to : (column to : PrimitiveType) (transform : Transform) → known transform ≡ true → resultType transform column ≡ ok to → (s t : List ℕ) → (utf8 s ≡ true → utf8 t ≡ true)
+held-to : (column to : PrimitiveType) (transform : Transform) → known transform ≡ true → resultType transform column ≡ ok to
+    → (s t : List ℕ) → (utf8 s ≡ true → utf8 t ≡ true)
     → HeldIn column s → HeldIn to t
 held-to column to transform n r s t k held = go (sameType to String) refl
   where

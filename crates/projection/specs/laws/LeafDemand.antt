@@ -63,11 +63,13 @@ HeldIn column s = (not (sameType column String) || utf8 s) ≡ true
 
 abbrev pub NumbersStrictExact : Type 0
 NumbersStrictExact = (column : PrimitiveType) (transform : Transform) (leaf q : Predicate ℤ) → AllOf (InType column) (literalsIn leaf)
-    → projectNumbers Strict column transform leaf ≡ ok (some q) → StrictExact (InType column) (numberPartition column transform) leaf q
+    → projectNumbers Strict column transform leaf ≡ ok (some q)
+    → StrictExact (InType column) (numberPartition column transform) leaf q
 
 abbrev pub NumbersInclusiveExact : Type 0
 NumbersInclusiveExact = (column : PrimitiveType) (transform : Transform) (leaf q : Predicate ℤ) → AllOf (InType column) (literalsIn leaf)
-    → projectNumbers Inclusive column transform leaf ≡ ok (some q) → InclusiveExact (InType column) (numberPartition column transform) leaf (lifted column transform) q
+    → projectNumbers Inclusive column transform leaf ≡ ok (some q)
+    → InclusiveExact (InType column) (numberPartition column transform) leaf (lifted column transform) q
 
 abbrev pub BytesNoRowLost : Type 0
 BytesNoRowLost = (column : PrimitiveType) (transform : Transform) (leaf q : Predicate (List ℕ)) → AllOf (HeldIn column) (literalsIn leaf)

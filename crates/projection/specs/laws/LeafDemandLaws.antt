@@ -16,7 +16,7 @@ use Rattle.values.specs.declared.datatypes.PrimitiveType.{PrimitiveType}
 use Rattle.values.specs.declared.datatypes.PrimitiveType.the-variants.{String}
 use Rattle.values.specs.declared.transform.Transform.{Transform}
 use Rattle.values.specs.declared.transform.Transform.the-variants.{Identity, Truncate}
-use Rattle.partition.specs.Partition.{ofRow, transformNumber, transformBytes, numberPartition, bytesPartition}
+use Rattle.partition.specs.Partition.{ofRow, transformNumber, transformBytes, bytesPartition}
 use Rattle.partition.specs.code.PartitionAnswers.{InType}
 use Rattle.partition.specs.laws.BytesPartitionLaws.{bytes-present, bytes-missing, bytes-identity, string-truncates}
 use Rattle.partition.specs.laws.PartitionLaws.{number-mono, number-identity, number-missing}

@@ -21,7 +21,9 @@ number-row-requires c κs h =
     number-length (start .args .column) _ (start .pre .0) (start .pre .1 .0 h)
 
 -- the row's number is of the column's type
-inside : (start : tie.Start) → let a = start .args in OfPresent (InType (a .column)) (numberRowIn (row (a .present) (now (a .content))) (length (now (a .content))))
+inside : (start : tie.Start)
+    → let a = start .args in
+    OfPresent (InType (a .column)) (numberRowIn (row (a .present) (now (a .content))) (length (now (a .content))))
 inside start = row-inside (start .args .column) (start .pre .0) (start .args .present) (now (start .args .content)) (start .pre .1 .0)
 
 transform-number-requires : tie.Need-transform-number-requires

@@ -1,11 +1,10 @@
 -- `numbers::steps::try_decrement_number` meets its contract. Assumes nothing.
-use mathlib.Core.Path.{_≡_}
 use lib.IntN.{ℤ, pos, negsuc, predℤ, _-ℤ_}
 use mir.Syntax.{w64}
 use mir.Val.{SFits}
 use Rattle.values.specs.laws.IntLaws.{ints, minus, apart}
 use Rattle.values.specs.laws.SignedLaws.{lit, eq-taken, eq-left}
-use Rattle.numbers.proofs.StepArms.{seen, no-neighbour, neighbour-in, neighbour-out, one-below}
+use Rattle.numbers.proofs.StepArms.{no-neighbour, neighbour-in, neighbour-out, one-below}
 use borrow.Author.Needs.{needs}
 use Rattle.numbers.proofs.steps.try_decrement_number.Statement.{statement}
 use Rattle.numbers.proofs.steps.try_decrement_number.Tie as tie

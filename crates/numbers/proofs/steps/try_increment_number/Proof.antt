@@ -1,11 +1,10 @@
 -- `numbers::steps::try_increment_number` meets its contract. Assumes nothing.
-use mathlib.Core.Path.{_≡_}
 use lib.IntN.{ℤ, pos, sucℤ, _+ℤ_}
 use mir.Syntax.{w64}
 use mir.Val.{SFits}
 use Rattle.values.specs.laws.IntLaws.{ints, plus, apart}
 use Rattle.values.specs.laws.SignedLaws.{lit, eq-taken, eq-left}
-use Rattle.numbers.proofs.StepArms.{seen, no-neighbour, neighbour-in, neighbour-out, one-above}
+use Rattle.numbers.proofs.StepArms.{no-neighbour, neighbour-in, neighbour-out, one-above}
 use borrow.Author.Needs.{needs}
 use Rattle.numbers.proofs.steps.try_increment_number.Statement.{statement}
 use Rattle.numbers.proofs.steps.try_increment_number.Tie as tie

@@ -7,4 +7,7 @@ use Rattle.partition.proofs.result.has_days.Tie as tie
 
 pub has-days-spec : {M : Type 1} → statement M
 has-days-spec =
-    tie.close (tie.spec (λ c. listed withDays (c .before .args .column) (c .match .keys1) refl) (λ c. unlisted withDays (c .before .args .column) (c .match .keys2) refl))
+    tie.close
+    (tie.spec
+    (λ c. listed withDays (c .before .args .column) (c .match .keys1) refl)
+    (λ c. unlisted withDays (c .before .args .column) (c .match .keys2) refl))

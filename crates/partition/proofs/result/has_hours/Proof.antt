@@ -7,4 +7,7 @@ use Rattle.partition.proofs.result.has_hours.Tie as tie
 
 pub has-hours-spec : {M : Type 1} → statement M
 has-hours-spec =
-    tie.close (tie.spec (λ c. listed withHours (c .before .args .column) (c .match .keys1) refl) (λ c. unlisted withHours (c .before .args .column) (c .match .keys2) refl))
+    tie.close
+    (tie.spec
+    (λ c. listed withHours (c .before .args .column) (c .match .keys1) refl)
+    (λ c. unlisted withHours (c .before .args .column) (c .match .keys2) refl))

@@ -7,4 +7,7 @@ use Rattle.partition.proofs.result.truncates.Tie as tie
 
 pub truncates-spec : {M : Type 1} → statement M
 truncates-spec =
-    tie.close (tie.spec (λ c. listed truncatable (c .before .args .column) (c .match .keys1) refl) (λ c. unlisted truncatable (c .before .args .column) (c .match .keys2) refl))
+    tie.close
+    (tie.spec
+    (λ c. listed truncatable (c .before .args .column) (c .match .keys1) refl)
+    (λ c. unlisted truncatable (c .before .args .column) (c .match .keys2) refl))
