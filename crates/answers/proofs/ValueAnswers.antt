@@ -9,13 +9,12 @@ use lib.IntN.{ℤ}
 use lib.ListN.{length, take}
 use borrow.Table.Elements.{take-le}
 use Rattle.values.specs.Outcomes.{Res, ok, err, Row, missing, present}
-use Rattle.values.specs.Types.{layout, contentSize, isBytes, fits, inType}
+use Rattle.values.specs.Types.{layout, contentSize, isBytes, fits}
 use Rattle.values.specs.Words.{over}
 use Rattle.values.specs.declared.datatypes.PrimitiveType.{PrimitiveType}
-use Rattle.values.specs.declared.datatypes.TypeResult.the-variants as type-result
 use Rattle.values.specs.declared.error.ErrorKind.{ErrorKind}
 use Rattle.values.specs.declared.transform.Transform.{Transform}
-use Rattle.partition.specs.code.PartitionAnswers.{numberResult, bytesResult}
+use Rattle.partition.specs.code.PartitionAnswers.{numberResult, bytesResult, InType, OfPresent}
 use Rattle.partition.specs.Partition.{numberPartition, bytesPartition}
 use Rattle.partition.specs.ResultType.{resultType}
 use Rattle.partition.specs.declared.bytes.BytesResult.{BytesResult}
@@ -25,7 +24,6 @@ use Rattle.partition.specs.declared.number.NumberResult.the-variants as number-
 use Rattle.projection.specs.laws.LandingLaws.{number-partition-lands}
 use Rattle.sheet.specs.laws.RecordLaws.{fits-room, number-type}
 use Rattle.sheet.specs.Records.{recordSize, value}
-use Rattle.sheet.specs.declared.value.ValueResult.the-variants as value-result
 use Rattle.sets.specs.laws.TransformedLaws.{value-said}
 use Rattle.write.specs.laws.RoundTripLaws.{length-literal}
 use Rattle.write.specs.laws.WriteLaws.{length-number}
@@ -59,8 +57,8 @@ module _ (column to : PrimitiveType) (transform : Transform) (r : Row ℤ) {q : 
       go (ok (present t)) = refl
       go (err e) = refl
 
-  pub number-lands : {t : ℤ} → resultType transform column ≡ ok to → q ≡ number-result.Value t → inType to t ≡ true
-  number-lands result is = number-partition-lands column to transform r (present _) result (said is)
+  pub number-lands : {t : ℤ} → resultType transform column ≡ ok to → OfPresent (InType column) r → q ≡ number-result.Value t → InType to t
+  number-lands result inside is = number-partition-lands column to transform r (present _) result (said is) inside
 
   pub number-no-value : {e : ErrorKind} {d : List ℕ} → q ≡ number-result.Err e → Settled (numberValue column transform to r) d d (Err e)
   number-no-value is = settled-refused (number-refused column to transform r (said is))

@@ -17,7 +17,7 @@ use Rattle.transform.specs.Calendar.{inCalendar, shift, civilYear, civilMonth, 
 use Rattle.transform.specs.Count.{countOff, before}
 use Rattle.transform.specs.Floor.{floorDiv, floorMod}
 use Rattle.transform.specs.Gregorian.{leap, yearLength, monthLength, cycleYear, cycleDay, yearAt, monthIn, monthAt}
-use Rattle.partition.specs.Partition.{transformNumber, transformBytes, checked, partition, numberPartition, bytesPartition}
+use Rattle.partition.specs.Partition.{transformNumber, transformBytes, partition, numberPartition, bytesPartition}
 use Rattle.partition.specs.ResultType.{resultType}
 use Rattle.transform.specs.Temporal.{dayOf, hourOf}
 use Rattle.transform.specs.Truncate.{truncated, firstCodePoints}
@@ -99,7 +99,7 @@ starred =
     ∷ []
 
 pub starred-cases : map (λ (c : Case). c .asked) starred ≡ map (λ (c : Case). c .expected) starred
-unfolding projectSheet transformValue sheet head transformOf value content projectedLeaf transformedRow resultType checked
+unfolding projectSheet transformValue sheet head transformOf value content projectedLeaf transformedRow resultType
     numberPartition bytesPartition partition projectNumbers projectBytes transformNumber transformBytes inType
     truncated floorMod floorDiv dayOf hourOf inCalendar yearOf monthOf civilYear civilMonth shift countOff before
     leap yearLength monthLength cycleYear cycleDay yearAt monthIn monthAt firstCodePoints isCodePoint codePoints utf8

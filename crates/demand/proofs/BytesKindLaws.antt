@@ -4,26 +4,27 @@ use Prim.Native.Nat.{ℕ, _≤_, _<_}
 use native.Mathlib.Omega.{arith}
 use mathlib.Core.Bool.{true≢false}
 use mathlib.Core.List.{List, [], _∷_}
-use mathlib.Core.Path.{_≡_, refl, sym, ap, subst, _∙_}
+use mathlib.Core.Path.{_≡_, sym, ap, subst, _∙_}
 use lib.ListN.{length}
 use borrow.Author.Tests.{leb-true, le-leb}
 use Rattle.values.specs.Ascending.{AllOf}
 use Rattle.values.specs.Outcomes.{ok, Row, missing, present}
-use Rattle.values.specs.laws.OutcomeLaws.{ok-inj, ok-not-err, passing, passed}
-use Rattle.values.specs.Types.{bytes, layout, typeNumber}
+use Rattle.values.specs.laws.OutcomeLaws.{ok-inj, passing, passed}
+use Rattle.values.specs.Types.{bytes, isBytes, layout, typeNumber}
+use Rattle.values.specs.laws.TypesLaws.{bytes-layout}
 use Rattle.values.specs.declared.datatypes.PrimitiveType.{PrimitiveType}
 use Rattle.values.specs.declared.datatypes.PrimitiveType.the-variants.{Int, Long, Date, Time, Timestamp, Timestamptz, TimestampNs, TimestamptzNs, String, Binary}
-use Rattle.values.specs.declared.error.ErrorKind.the-variants.{NotUtf8, NoResultType}
+use Rattle.values.specs.declared.error.ErrorKind.the-variants.{NotUtf8}
 use Rattle.values.specs.declared.transform.Transform.{Transform}
 use Rattle.values.specs.declared.transform.Transform.the-variants.{Identity, Truncate, Year, Month, Day, Hour, Void, Unknown}
 use Rattle.partition.specs.Partition.{bytesPartition}
-use Rattle.partition.specs.ResultType.{truncates, resultType}
-use Rattle.transform.specs.Temporal.{unitOf}
-use Rattle.transform.specs.declared.temporal.TimeUnit.the-variants.{Neither}
+use Rattle.partition.specs.code.PartitionAnswers.{OfPresent}
+use Rattle.partition.specs.laws.PartitionLaws.{listed-to}
+use Rattle.partition.specs.ResultType.{truncatable, withDays, withHours, resultType}
 use Rattle.expr.specs.Holds.{bytesTests}
 use Rattle.expr.specs.Predicates.{Predicate, literalsIn}
 use Rattle.projection.specs.laws.LeafDemand.{HeldIn}
-use Rattle.projection.specs.laws.LandingLaws.{OfPresent, bytes-land, bytes-short, bytes-partition-lands, bytes-partition-short}
+use Rattle.projection.specs.laws.LandingLaws.{bytes-land, bytes-short, bytes-partition-lands, bytes-partition-short}
 use Rattle.projection.specs.laws.LiteralLaws.{Landed}
 use Rattle.projection.specs.Projection.{projectBytes}
 use Rattle.projection.specs.Steps.{some}
@@ -33,37 +34,35 @@ use Rattle.sheet.specs.Values.{readBytes}
 use Rattle.meets.specs.Tested.{testedSheet}
 use Rattle.answers.specs.Kinds.{byteStrings}
 use Rattle.answers.specs.Answers.{transformedRow}
+use Rattle.answers.specs.laws.BytesLeafLaws.{no-time, not-listed}
 use Rattle.demand.proofs.KindLaws.{KindLaws}
 use Rattle.demand.proofs.ReadBackLaws.{ValueLaws}
 
--- ---- the types of byte strings: 9 and 10, which know no days and no hours
-pub record BytesType (column : PrimitiveType) : Type 0 where
-  pub no-unit : unitOf column ≡ Neither
-  pub above : 8 < typeNumber column
+-- ---- the types of byte strings: 9 and 10
+pub bytes-above : (column : PrimitiveType) (n : ℕ) → layout column ≡ bytes n → 8 < typeNumber column
+bytes-above Int n e = absurd (true≢false (cc))
+bytes-above Long n e = absurd (true≢false (cc))
+bytes-above Date n e = absurd (true≢false (cc))
+bytes-above Time n e = absurd (true≢false (cc))
+bytes-above Timestamp n e = absurd (true≢false (cc))
+bytes-above Timestamptz n e = absurd (true≢false (cc))
+bytes-above TimestampNs n e = absurd (true≢false (cc))
+bytes-above TimestamptzNs n e = absurd (true≢false (cc))
+bytes-above String n e = omega arith
+bytes-above Binary n e = omega arith
 
-pub bytes-type : (column : PrimitiveType) (n : ℕ) → layout column ≡ bytes n → BytesType column
-bytes-type Int n e = absurd (true≢false (cc))
-bytes-type Long n e = absurd (true≢false (cc))
-bytes-type Date n e = absurd (true≢false (cc))
-bytes-type Time n e = absurd (true≢false (cc))
-bytes-type Timestamp n e = absurd (true≢false (cc))
-bytes-type Timestamptz n e = absurd (true≢false (cc))
-bytes-type TimestampNs n e = absurd (true≢false (cc))
-bytes-type TimestamptzNs n e = absurd (true≢false (cc))
-bytes-type String n e = record { no-unit = refl; above = omega arith }
-bytes-type Binary n e = record { no-unit = refl; above = omega arith }
-
--- the result type is the column's
-pub bytes-result : (column to : PrimitiveType) (transform : Transform) (n : ℕ) → layout column ≡ bytes n → resultType transform column ≡ ok to → column ≡ to
+-- the result type is one of byte strings
+pub bytes-result : (column to : PrimitiveType) (transform : Transform) (n : ℕ) → layout column ≡ bytes n → resultType transform column ≡ ok to
+    → layout to ≡ bytes n
 unfolding resultType
-bytes-result column to Identity n is e = ok-inj e
-bytes-result column to (Truncate width) n is e = ok-inj (passed (truncates column) NoResultType _ e .1)
-bytes-result column to Year n is e = ok-not-err (rw (bytes-type column n is .no-unit) at e)
-bytes-result column to Month n is e = ok-not-err (rw (bytes-type column n is .no-unit) at e)
-bytes-result column to Day n is e = ok-not-err (rw (bytes-type column n is .no-unit) at e)
-bytes-result column to Hour n is e = ok-not-err (rw (bytes-type column n is .no-unit) at e)
-bytes-result column to Void n is e = ok-inj e
-bytes-result column to Unknown n is e = ok-inj e
+bytes-result column to Identity n is e = ap layout (sym (ok-inj e)) ∙ is
+bytes-result column to (Truncate width) n is e = ap layout (sym (listed-to truncatable column column e)) ∙ is
+bytes-result column to Year n is e = not-listed withDays column Int (no-time column n is .0) e
+bytes-result column to Month n is e = not-listed withDays column Int (no-time column n is .0) e
+bytes-result column to Day n is e = not-listed withDays column Date (no-time column n is .0) e
+bytes-result column to Hour n is e = not-listed withHours column Int (no-time column n is .1) e
+bytes-result column to Void n is e = ap layout (sym (ok-inj e)) ∙ is
+bytes-result column to Unknown n is e = ap layout (sym (ok-inj e)) ∙ sym (bytes-layout column (ap isBytes is)) ∙ is
 
 -- ---- the values of a byte string type: at most n bytes, and UTF-8 in a String
 abbrev pub Short : ℕ → List ℕ → Type 0
@@ -126,7 +125,7 @@ bytes-kind column to transform n is result = record {
   rows = bytes-values column n is;
   partRead = readBytes to;
   partTests = bytesTests;
-  parts = bytes-values to n (ap layout (sym (bytes-result column to transform n is result)) ∙ is);
+  parts = bytes-values to n (bytes-result column to transform n is result);
   part-good = λ r p h e. bytes-part column to transform n result r p h e;
   project-good = λ question l p h e. bytes-literals column to transform n result question l p h e;
   transforms = λ row. rw is;

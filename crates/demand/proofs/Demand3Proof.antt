@@ -7,7 +7,7 @@ use mathlib.Core.Logic.{_⊎_, inl, inr, ⊎-elim}
 use mathlib.Core.Path.{_≡_, refl, sym, ap, _∙_}
 use Rattle.values.specs.Ascending.{AllOf}
 use Rattle.values.specs.Numbered.{find}
-use Rattle.values.specs.Outcomes.{ok, Row, missing, present}
+use Rattle.values.specs.Outcomes.{ok, Row}
 use Rattle.values.specs.laws.OutcomeLaws.{ok-inj, gone}
 use Rattle.values.specs.Transforms.{transformOf}
 use Rattle.values.specs.Types.{Layout, number, bytes, layout, types, typeNumber}
@@ -15,11 +15,10 @@ use Rattle.values.specs.laws.TypesLaws.{type-number}
 use Rattle.values.specs.declared.datatypes.PrimitiveType.{PrimitiveType}
 use Rattle.values.specs.declared.transform.Transform.{Transform}
 use Rattle.partition.specs.Partition.{bytesPartition}
-use Rattle.expr.specs.Holds.{bytesTests}
 use Rattle.expr.specs.Predicates.{Predicate, literalsIn}
-use Rattle.projection.specs.laws.LeafDemand.{RowHeld, HeldIn}
+use Rattle.projection.specs.laws.LeafDemand as over-values
+use Rattle.projection.specs.laws.LeafDemand.{HeldIn}
 use Rattle.projection.specs.laws.LeafDemandLaws.{bytes-no-row-lost, bytes-strict-is-safe}
-use Rattle.projection.specs.laws.LandingLaws.{OfPresent}
 use Rattle.projection.specs.Steps.{some}
 use Rattle.projection.specs.declared.question.Question.{Question}
 use Rattle.projection.specs.declared.question.Question.the-variants.{Inclusive, Strict}
@@ -29,10 +28,10 @@ use Rattle.sheet.specs.Values.{byLayout}
 use Rattle.answers.specs.Kinds.{Kind, numbers, byteStrings}
 use Rattle.answers.specs.Answers.{projected, projectedLeaf}
 use Rattle.api.specs.Routines.{projectSheet}
-use Rattle.demand.proofs.BytesKindLaws.{bytes-type, bytes-values, all-parts, bytes-kind}
+use Rattle.demand.proofs.BytesKindLaws.{bytes-above, bytes-values, row-parts, all-parts, bytes-kind}
 use Rattle.demand.proofs.ExactLaws as exact
 use Rattle.demand.proofs.KindLaws.{KindLaws, Returned, returned}
-use Rattle.demand.proofs.NumberKindLaws.{number-kind}
+use Rattle.demand.proofs.NumberKindLaws.{number-known, number-kind}
 use Rattle.demand.proofs.KindRowLaws.{reading, good-leaf}
 use Rattle.demand.proofs.KindRowLaws as rows
 use Rattle.demand.proofs.ReadBackLaws.{sheetOf}
@@ -78,7 +77,10 @@ module _ (question : Question) (s q : List ℕ) where
 -- the laws of an answer's kind
 module _ {question : Question} {s q : List ℕ} where
   abbrev pub numbersLaw : (b : ByNumbers question s q) → KindLaws (b .column) (b .answer .to) (b .transform) (numbers (b .column) (b .transform) (b .size))
-  numbersLaw b = number-kind (b .column) (b .answer .to) (b .transform) (b .size) (b .is) (b .answer .result-is)
+  numbersLaw b =
+      let a = b .answer in
+      let k = number-known question (b .column) (b .transform) (a .leaf) (a .predicate) (a .project-is) in
+      number-kind (b .column) (a .to) (b .transform) (b .size) (b .is) k (a .result-is)
 
   abbrev pub bytesLaw : (b : ByBytes question s q) → KindLaws (b .column) (b .answer .to) (b .transform) (byteStrings (b .column) (b .transform))
   bytesLaw b = bytes-kind (b .column) (b .answer .to) (b .transform) (b .size) (b .is) (b .answer .result-is)
@@ -95,17 +97,16 @@ module _ {question : Question} {s q : List ℕ} (b : ByBytes question s q) where
   not-numeric : Numeric s → ⊥
   not-numeric h =
       let type = head-type (typeIn s) (transformIn s) (widthIn s) _ (reading (b .answer) (bytesLaw b) .head-is) in
-      omega (arith, type, bytes-type (b .column) (b .size) (b .is) .above)
+      omega (arith, type, bytes-above (b .column) (b .size) (b .is))
 
   literals-held : AllOf (HeldIn (b .column)) (literalsIn (b .answer .leaf))
   unfolding bytes-kind bytes-values
   literals-held = all-parts (b .column) (b .size) (literalsIn (b .answer .leaf)) (good-leaf (b .answer) (bytesLaw b) .all) .0
 
-  row-held : (r : Row (List ℕ)) → OfPresent (bytesLaw b .rows .Good) r
-      → RowHeld bytesTests bytesTests (HeldIn (b .column)) (bytesPartition (b .column) (b .transform)) (b .answer .leaf) (b .answer .predicate) r
+  row-held : (r p : Row (List ℕ)) → over-values.RowOf (bytesLaw b .rows .Good) (bytesPartition (b .column) (b .transform)) r p
+      → over-values.RowOf (HeldIn (b .column)) (bytesPartition (b .column) (b .transform)) r p
   unfolding bytes-kind bytes-values
-  row-held missing h = tt
-  row-held (present v) h = h .0
+  row-held r p h = (row-parts (b .column) (b .size) r (h .0) .0, h .1)
 
 module _ (s q v p : List ℕ) (h : RowOf s p v) where
   bytes-kept : ByBytes Inclusive s q → Accepts s v → Accepts q p
@@ -113,14 +114,14 @@ module _ (s q v p : List ℕ) (h : RowOf s p v) where
   bytes-kept b met =
       let a = b .answer in
       let over = bytes-no-row-lost (b .column) (b .transform) (a .leaf) (a .predicate) (literals-held b) (a .project-is) in
-      rows.no-row-lost a (bytesLaw b) v p h (λ r y good e m. over r y (row-held b r good) e m) met
+      rows.no-row-lost a (bytesLaw b) v p h (λ r y e m. over r y (row-held b r y e) m) met
 
   bytes-safe : ByBytes Strict s q → Accepts q p → Accepts s v
   unfolding bytes-kind
   bytes-safe b met =
       let a = b .answer in
       let over = bytes-strict-is-safe (b .column) (b .transform) (a .leaf) (a .predicate) (literals-held b) (a .project-is) in
-      rows.strict-is-safe a (bytesLaw b) v p h (λ r y good e m. over r y (row-held b r good) e m) met
+      rows.strict-is-safe a (bytesLaw b) v p h (λ r y e m. over r y (row-held b r y e) m) met
 
 -- ---- the four clauses
 no-row-lost : NoRowLost

@@ -12,7 +12,7 @@ use Rattle.values.specs.declared.transform.Transform.{Transform}
 use Rattle.partition.specs.ResultType.{resultType}
 use Rattle.expr.specs.Holds.{Tests}
 use Rattle.expr.specs.Predicates.{Predicate}
-use Rattle.projection.specs.laws.LandingLaws.{OfPresent}
+use Rattle.partition.specs.code.PartitionAnswers.{OfPresent}
 use Rattle.projection.specs.laws.LiteralLaws.{Landed}
 use Rattle.projection.specs.Steps.{Projected, some, none, mapped}
 use Rattle.projection.specs.declared.question.Question.{Question}

@@ -12,7 +12,8 @@ use Rattle.values.specs.laws.OutcomeLaws.{ok-inj}
 use Rattle.values.specs.declared.datatypes.PrimitiveType.{PrimitiveType}
 use Rattle.values.specs.declared.transform.Transform.{Transform}
 use Rattle.expr.specs.Holds.{holds}
-use Rattle.projection.specs.laws.LandingLaws.{OfPresent}
+use Rattle.partition.specs.code.PartitionAnswers.{OfPresent}
+use Rattle.projection.specs.laws.LeafDemand as over-values
 use Rattle.projection.specs.laws.LiteralLaws.{Landed}
 use Rattle.projection.specs.declared.question.Question.{Question}
 use Rattle.sheet.specs.laws.RecordLaws.{value-read}
@@ -73,47 +74,51 @@ module _ {A B : Type 0} {k : Kind A B} {column : PrimitiveType} {transform : Tra
   same-part u v p m n =
       record-inj (law .parts) (m .part) (n .part) (good-part u p m) (good-part v p n) (m .bytes-is ∙ sym (n .bytes-is))
 
+  -- r is a row of y, over values
+  abbrev Row-of : Row A → Row B → Type 0
+  Row-of r y = over-values.RowOf (law .rows .Good) (k .partition) r y
+
+  pub row-of : (v p : List ℕ) (m : Part v p) → Row-of (m .row) (m .part)
+  row-of v p m = (good-row v p m, m .part-is)
+
   -- ---- nothing is lost, if nothing is over values
   module _ (v p : List ℕ) (h : RowOf s p v) where
-    pub no-row-lost : ((r : Row A) (y : Row B) → OfPresent (law .rows .Good) r → k .partition r ≡ ok y
+    pub no-row-lost : ((r : Row A) (y : Row B) → Row-of r y
         → holds (law .rowTests) (a .leaf) r ≡ true → holds (law .partTests) (a .predicate) y ≡ true) → Accepts s v → Accepts q p
     no-row-lost f met =
         let m = part-of v p h in
-        meets-predicate v p m .1 (f (m .row) (m .part) (good-row v p m) (m .part-is) (meets-leaf v p m .0 met))
+        meets-predicate v p m .1 (f (m .row) (m .part) (row-of v p m) (meets-leaf v p m .0 met))
 
-    pub strict-is-safe : ((r : Row A) (y : Row B) → OfPresent (law .rows .Good) r → k .partition r ≡ ok y
+    pub strict-is-safe : ((r : Row A) (y : Row B) → Row-of r y
         → holds (law .partTests) (a .predicate) y ≡ true → holds (law .rowTests) (a .leaf) r ≡ true) → Accepts q p → Accepts s v
     strict-is-safe f met =
         let m = part-of v p h in
-        meets-leaf v p m .1 (f (m .row) (m .part) (good-row v p m) (m .part-is) (meets-predicate v p m .0 met))
+        meets-leaf v p m .1 (f (m .row) (m .part) (row-of v p m) (meets-predicate v p m .0 met))
 
-  -- ---- where every row that has a partition value can be written: some row, and all rows
-  module _ (starts : (r : Row A) (y : Row B) → k .partition r ≡ ok y → OfPresent (law .rows .Good) r)
-      (bytes : (r : Row A) → AllBytes (rowRecord (law .rows) r)) where
-    abbrev pub partRecord : Row B → List ℕ
-    partRecord y = rowRecord (law .parts) y
+  -- ---- a row over values can be written: some row, and all rows
+  abbrev pub partRecord : Row B → List ℕ
+  partRecord y = rowRecord (law .parts) y
 
-    written : (r : Row A) (y : Row B) → k .partition r ≡ ok y → Part (rowRecord (law .rows) r) (partRecord y)
-    written r y e =
-        let good = starts r y e in
-        record {
-          content = mapRow (law .rowWrite) r;
-          row = r;
-          part = y;
-          value-is = record-back (law .rows) r good;
-          row-is = row-back (law .rows) r good;
-          part-is = e;
-          bytes-is = refl;
-        }
+  written : (r : Row A) (y : Row B) → Row-of r y → Part (rowRecord (law .rows) r) (partRecord y)
+  written r y e = record {
+    content = mapRow (law .rowWrite) r;
+    row = r;
+    part = y;
+    value-is = record-back (law .rows) r (e .0);
+    row-is = row-back (law .rows) r (e .0);
+    part-is = e .1;
+    bytes-is = refl;
+  }
 
-    pub some-row : (y : Row B) → (r : Row A) × (k .partition r ≡ ok y) × (holds (law .rowTests) (a .leaf) r ≡ true) → SomeRow s (partRecord y)
+  module _ (bytes : (r : Row A) → AllBytes (rowRecord (law .rows) r)) where
+    pub some-row : (y : Row B) → (r : Row A) × Row-of r y × (holds (law .rowTests) (a .leaf) r ≡ true) → SomeRow s (partRecord y)
     unfolding written
     some-row y f =
         let u = rowRecord (law .rows) (f .0) in
         let m = written (f .0) y (f .1) in
         (u, bytes (f .0), part-row law s u (partRecord y) (reading .head-is) m, meets-leaf u (partRecord y) m .1 (f .2))
 
-    pub all-rows : (y : Row B) → AllRows s (partRecord y) → (r : Row A) → k .partition r ≡ ok y → holds (law .rowTests) (a .leaf) r ≡ true
+    pub all-rows : (y : Row B) → AllRows s (partRecord y) → (r : Row A) → Row-of r y → holds (law .rowTests) (a .leaf) r ≡ true
     unfolding written
     all-rows y f r e =
         let u = rowRecord (law .rows) r in
@@ -121,13 +126,13 @@ module _ {A B : Type 0} {k : Kind A B} {column : PrimitiveType} {transform : Tra
         meets-leaf u (partRecord y) m .0 (f u (bytes r) (part-row law s u (partRecord y) (reading .head-is) m))
 
   pub row-some : (y : Row B) (p : List ℕ) → ((u : List ℕ) (m : Part u p) → m .part ≡ y) → SomeRow s p
-      → (r : Row A) × (k .partition r ≡ ok y) × (holds (law .rowTests) (a .leaf) r ≡ true)
+      → (r : Row A) × Row-of r y × (holds (law .rowTests) (a .leaf) r ≡ true)
   row-some y p same f =
       let m = part-of (f .0) p (f .2) in
-      (m .row, m .part-is ∙ ap ok (same (f .0) m), meets-leaf (f .0) p m .0 (f .3))
+      (m .row, (good-row (f .0) p m, m .part-is ∙ ap ok (same (f .0) m)), meets-leaf (f .0) p m .0 (f .3))
 
   pub rows-all : (y : Row B) (p : List ℕ) → ((u : List ℕ) (m : Part u p) → m .part ≡ y)
-      → ((r : Row A) → k .partition r ≡ ok y → holds (law .rowTests) (a .leaf) r ≡ true) → AllRows s p
+      → ((r : Row A) → Row-of r y → holds (law .rowTests) (a .leaf) r ≡ true) → AllRows s p
   rows-all y p same f u b h =
       let m = part-of u p h in
-      meets-leaf u p m .1 (f (m .row) (m .part-is ∙ ap ok (same u m)))
+      meets-leaf u p m .1 (f (m .row) (good-row u p m, m .part-is ∙ ap ok (same u m)))

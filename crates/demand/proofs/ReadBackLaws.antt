@@ -15,7 +15,7 @@ use Rattle.values.specs.declared.transform.Transform.{Transform}
 use Rattle.values.specs.declared.transform.Transform.the-variants.{Identity}
 use Rattle.expr.specs.Holds.{Tests, holds}
 use Rattle.expr.specs.Predicates.{Predicate, unary, test, binary, set, literalsIn}
-use Rattle.projection.specs.laws.LandingLaws.{OfPresent}
+use Rattle.partition.specs.code.PartitionAnswers.{OfPresent}
 use Rattle.projection.specs.laws.LiteralLaws.{Landed}
 use Rattle.sheet.specs.laws.RecordLaws.{FitsRow}
 use Rattle.write.specs.laws.RoundTripLaws.{value-back}

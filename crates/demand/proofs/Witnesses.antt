@@ -17,7 +17,7 @@ use Rattle.transform.specs.Calendar.{inCalendar, shift, civilYear, yearOf}
 use Rattle.transform.specs.Count.{countOff}
 use Rattle.transform.specs.Floor.{floorDiv, floorMod}
 use Rattle.transform.specs.Gregorian.{leap, yearLength, cycleYear, yearAt}
-use Rattle.partition.specs.Partition.{transformNumber, checked, partition, numberPartition}
+use Rattle.partition.specs.Partition.{transformNumber, partition, numberPartition}
 use Rattle.partition.specs.ResultType.{resultType}
 use Rattle.transform.specs.Temporal.{dayOf}
 use Rattle.transform.specs.Truncate.{truncated}
@@ -59,11 +59,11 @@ abbrev nought : List ℕ
 nought = intValue (pos 0)
 
 row-of-nought : RowOf below300 nought five
-unfolding transformValue head transformOf value content transformedRow resultType checked numberPartition partition transformNumber inType truncated floorMod
+unfolding transformValue head transformOf value content transformedRow resultType numberPartition partition transformNumber inType truncated floorMod
 row-of-nought = refl
 
 returned : Returns Inclusive below300 atMost290 × Returns Strict below300 less300
-unfolding projectSheet sheet head transformOf content projectedLeaf resultType checked projectNumbers transformNumber inType truncated floorMod answerSheet
+unfolding projectSheet sheet head transformOf content projectedLeaf resultType projectNumbers transformNumber inType truncated floorMod answerSheet
 returned = (refl, refl)
 
 accepted : Accepts below300 five × Accepts less300 nought
@@ -96,12 +96,12 @@ abbrev minusOne : List ℕ
 minusOne = intValue (negsuc 0)
 
 rows-of-years : RowOf lastOf1969 nought nought × RowOf lastOf1969 minusOne minusOne
-unfolding transformValue head transformOf value content transformedRow resultType checked numberPartition partition
+unfolding transformValue head transformOf value content transformedRow resultType numberPartition partition
     transformNumber inType dayOf floorDiv inCalendar yearOf civilYear shift yearAt cycleYear countOff yearLength leap
 rows-of-years = (refl, refl)
 
 years-returned : Returns Inclusive lastOf1969 bothYears
-unfolding projectSheet sheet head transformOf content projectedLeaf resultType checked projectNumbers
+unfolding projectSheet sheet head transformOf content projectedLeaf resultType projectNumbers
     transformNumber inType dayOf floorDiv inCalendar yearOf civilYear shift yearAt cycleYear countOff yearLength leap compareNumbers answerSheet
 years-returned = refl
 

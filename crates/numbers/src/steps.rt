@@ -10,7 +10,7 @@ ghost use mathlib.Core.Bool.{true};
 ghost use mathlib.Core.Path.{_≡_};
 ghost use lib.IntN.{sucℤ, predℤ};
 ghost use Rattle.values.specs.Outcomes.{ok};
-ghost use Rattle.values.specs.Types.{sameType};
+ghost use Rattle.values.specs.Types.{inType, sameType};
 ghost use Rattle.values.specs.declared.datatypes.PrimitiveType.the-variants.{Timestamp};
 ghost use Rattle.expr.specs.Operators.{byArity, takesOne};
 ghost use Rattle.projection.specs.Lifting.{lifted, lift};
@@ -35,34 +35,45 @@ pub enum NumberProjection {
     Err(ErrorKind),
 }
 
-fn try_increment_number(operator: PredicateOperator, v: i64) -> Boundary
-    ensures { λ r. ⌜ r ≡ neighbour operator (sucℤ v) ⌝ }
+// L+1, and L−1 in the next function: 8 where it leaves the column's type.
+fn try_increment_number(column: PrimitiveType, operator: PredicateOperator, v: i64) -> Boundary
+    ensures { λ r. ⌜ r ≡ neighbour column operator (sucℤ v) ⌝ }
 {
     if v == 9223372036854775807 {
-        Boundary::Err(ErrorKind::Overflow)
+        return Boundary::Err(ErrorKind::Overflow);
+    }
+    let next = v + 1;
+    if column.holds(next) {
+        Boundary::At(operator, next)
     } else {
-        Boundary::At(operator, v + 1)
+        Boundary::Err(ErrorKind::Overflow)
     }
 }
 
-fn try_decrement_number(operator: PredicateOperator, v: i64) -> Boundary
-    ensures { λ r. ⌜ r ≡ neighbour operator (predℤ v) ⌝ }
+fn try_decrement_number(column: PrimitiveType, operator: PredicateOperator, v: i64) -> Boundary
+    ensures { λ r. ⌜ r ≡ neighbour column operator (predℤ v) ⌝ }
 {
     if v == -9223372036854775808 {
-        Boundary::Err(ErrorKind::Overflow)
+        return Boundary::Err(ErrorKind::Overflow);
+    }
+    let next = v - 1;
+    if column.holds(next) {
+        Boundary::At(operator, next)
     } else {
-        Boundary::At(operator, v - 1)
+        Boundary::Err(ErrorKind::Overflow)
     }
 }
 
 // Inclusive, the Rust's `adjust_operator` with it: < L is ≤ L−1, and > L is ≥ L+1.
-fn adjust_boundary(operator: PredicateOperator, l: i64) -> Boundary
-    ensures { λ r. ⌜ r ≡ inclusiveBoundary (byArity operator) l ⌝ }
+fn adjust_boundary(column: PrimitiveType, operator: PredicateOperator, l: i64) -> Boundary
+    ensures { λ r. ⌜ r ≡ inclusiveBoundary column (byArity operator) l ⌝ }
 {
     match operator {
-        PredicateOperator::LessThan => try_decrement_number(PredicateOperator::LessThanOrEq, l),
+        PredicateOperator::LessThan => {
+            try_decrement_number(column, PredicateOperator::LessThanOrEq, l)
+        }
         PredicateOperator::GreaterThan => {
-            try_increment_number(PredicateOperator::GreaterThanOrEq, l)
+            try_increment_number(column, PredicateOperator::GreaterThanOrEq, l)
         }
         PredicateOperator::LessThanOrEq => Boundary::At(operator, l),
         PredicateOperator::GreaterThanOrEq => Boundary::At(operator, l),
@@ -74,39 +85,20 @@ fn adjust_boundary(operator: PredicateOperator, l: i64) -> Boundary
 }
 
 // Strict: ≤ L is < L+1, and ≥ L is > L−1.
-fn strict_boundary(operator: PredicateOperator, l: i64) -> Boundary
-    ensures { λ r. ⌜ r ≡ strictBoundary (byArity operator) l ⌝ }
+fn strict_boundary(column: PrimitiveType, operator: PredicateOperator, l: i64) -> Boundary
+    ensures { λ r. ⌜ r ≡ strictBoundary column (byArity operator) l ⌝ }
 {
     match operator {
-        PredicateOperator::LessThanOrEq => try_increment_number(PredicateOperator::LessThan, l),
+        PredicateOperator::LessThanOrEq => {
+            try_increment_number(column, PredicateOperator::LessThan, l)
+        }
         PredicateOperator::GreaterThanOrEq => {
-            try_decrement_number(PredicateOperator::GreaterThan, l)
+            try_decrement_number(column, PredicateOperator::GreaterThan, l)
         }
         PredicateOperator::LessThan => Boundary::At(operator, l),
         PredicateOperator::GreaterThan => Boundary::At(operator, l),
         PredicateOperator::NotEq => Boundary::At(operator, l),
         _ => Boundary::None,
-    }
-}
-
-// The operator with T of the literal.
-fn project_boundary(
-    column: PrimitiveType,
-    transform: Transform,
-    boundary: Boundary,
-) -> NumberProjection
-    requires { ⌜ OneAt boundary ⌝ }
-    ensures projected { λ r. ⌜ numberProjected r ≡ atBoundary (numberUnder column transform) boundary ⌝ }
-    ensures one { λ r. ⌜ OneIn r ⌝ }
-{
-    match boundary {
-        Boundary::None => NumberProjection::None,
-        Boundary::Err(e) => NumberProjection::Err(e),
-        Boundary::At(operator, l) => match transform_literal(column, transform, l) {
-            NumberResult::Missing => NumberProjection::Err(ErrorKind::FeatureUnsupported),
-            NumberResult::Value(t) => NumberProjection::One(operator, t),
-            NumberResult::Err(e) => NumberProjection::Err(e),
-        },
     }
 }
 
@@ -158,6 +150,34 @@ fn adjust_time_projection(operator: PredicateOperator, t: i64) -> NumberProjecti
     }
 }
 
+// The operator with T of the literal, lifted where that is asked for.
+fn project_boundary(
+    column: PrimitiveType,
+    transform: Transform,
+    boundary: Boundary,
+    lifts: bool,
+) -> NumberProjection
+    requires { ⌜ OneAt column boundary ⌝ }
+    ensures projected { λ r. ⌜ numberProjected r ≡ atBoundary lifts (numberUnder column transform) boundary ⌝ }
+    ensures one { λ r. ⌜ OneIn r ⌝ }
+{
+    match boundary {
+        Boundary::None => NumberProjection::None,
+        Boundary::Err(e) => NumberProjection::Err(e),
+        Boundary::At(operator, l) => match transform_literal(column, transform, l) {
+            NumberResult::Missing => NumberProjection::Err(ErrorKind::FeatureUnsupported),
+            NumberResult::Value(t) => {
+                if lifts {
+                    adjust_time_projection(operator, t)
+                } else {
+                    NumberProjection::One(operator, t)
+                }
+            }
+            NumberResult::Err(e) => NumberProjection::Err(e),
+        },
+    }
+}
+
 // The inclusive projection.
 fn project_binary_with_adjusted_boundary(
     column: PrimitiveType,
@@ -165,21 +185,12 @@ fn project_binary_with_adjusted_boundary(
     operator: PredicateOperator,
     l: i64,
 ) -> NumberProjection
+    requires { ⌜ inType column l ≡ true ⌝ }
     ensures projected { λ r. ⌜ numberProjected r ≡ numberLeaf Inclusive column transform (byArity operator) l ⌝ }
     ensures one { λ r. ⌜ OneIn r ⌝ }
 {
-    match project_boundary(column, transform, adjust_boundary(operator, l)) {
-        NumberProjection::One(adjusted, t) => {
-            if is_lifted(column, transform) {
-                adjust_time_projection(adjusted, t)
-            } else {
-                NumberProjection::One(adjusted, t)
-            }
-        }
-        NumberProjection::None => NumberProjection::None,
-        NumberProjection::Two(t) => NumberProjection::Two(t),
-        NumberProjection::Err(e) => NumberProjection::Err(e),
-    }
+    let boundary = adjust_boundary(column, operator, l);
+    project_boundary(column, transform, boundary, is_lifted(column, transform))
 }
 
 // The strict projection.
@@ -189,13 +200,15 @@ fn truncate_number_strict(
     operator: PredicateOperator,
     l: i64,
 ) -> NumberProjection
+    requires { ⌜ inType column l ≡ true ⌝ }
     ensures projected { λ r. ⌜ numberProjected r ≡ numberLeaf Strict column transform (byArity operator) l ⌝ }
     ensures one { λ r. ⌜ OneIn r ⌝ }
 {
-    project_boundary(column, transform, strict_boundary(operator, l))
+    let boundary = strict_boundary(column, operator, l);
+    project_boundary(column, transform, boundary, false)
 }
 
-// Either projection of a leaf with one number.
+// Either projection of a leaf with one number, which is of the column's type.
 pub fn project_number(
     question: Question,
     column: PrimitiveType,
@@ -203,6 +216,7 @@ pub fn project_number(
     operator: PredicateOperator,
     l: i64,
 ) -> NumberProjection
+    requires { ⌜ inType column l ≡ true ⌝ }
     ensures projected { λ r. ⌜ numberProjected r ≡ numberLeaf question column transform (byArity operator) l ⌝ }
     ensures one { λ r. ⌜ OneIn r ⌝ }
 {

@@ -21,21 +21,18 @@ use Rattle.partition.specs.declared.number.DayResult.the-variants as day
 use Rattle.values.specs.Outcomes.{Res, ok, err, need, _>>_, present}
 use Rattle.values.specs.Types.{inType}
 use Rattle.values.specs.declared.error.ErrorKind.{ErrorKind}
-use Rattle.values.specs.declared.error.ErrorKind.the-variants.{NoResultType, Overflow}
+use Rattle.values.specs.declared.error.ErrorKind.the-variants.{NoResultType, FeatureUnsupported, Overflow}
 use Rattle.values.specs.declared.datatypes.PrimitiveType.{PrimitiveType}
 use Rattle.values.specs.declared.datatypes.PrimitiveType.the-variants.{Int, Long, Date, Time, Timestamp, Timestamptz, TimestampNs, TimestamptzNs, String, Binary}
 use Rattle.values.specs.declared.transform.Transform.{Transform}
-use Rattle.partition.specs.Partition.{outsideCalendar, byCalendar, dayNumber, intHour, hourNumber, byTransform, transformNumber, checked, partition, numberPartition}
+use Rattle.partition.specs.Partition.{outsideCalendar, byCalendar, dayNumber, intHour, hourNumber, transformNumber, known, partition, numberPartition}
 use Rattle.transform.specs.code.TransformAnswers.{counted}
-use Rattle.partition.specs.code.PartitionAnswers.{dayResult, numberResult, numberRow, checkedResult}
+use Rattle.partition.specs.code.PartitionAnswers.{dayResult, numberResult, numberRow, InType, OfPresent}
 use Rattle.partition.specs.declared.number.NumberResult.{NumberResult}
 use Rattle.partition.specs.declared.number.NumberResult.the-variants as number-result
 use Rattle.partition.specs.declared.number.NumberRow.{NumberRow}
 use Rattle.partition.specs.declared.number.NumberRow.the-variants as number-row
-use Rattle.partition.specs.declared.result.Checked.{Checked}
-use Rattle.partition.specs.declared.result.Checked.the-variants as checked-as
 use Rattle.partition.proofs.Units.{units}
-use Rattle.partition.proofs.ResultArms.{checked-ok, checked-err}
 
 -- ---- the day of a value
 abbrev isDay : TimeUnit → Bool
@@ -142,32 +139,34 @@ module _ (ty : PrimitiveType) (v : ℤ) (f : SFits w64 v) (u : TimeUnit) (is : u
 pub ruleset hours = (hour-fits, hour-wide, hour-of, no-hour, units)
 
 -- ---- a present number
-module _ (ty : PrimitiveType) (tr : Transform) (v : ℤ) (f : SFits w64 v) (b : Bool) (is : b ≡ inType ty (seen v)) where
-  pub literal-outside : b ≡ false → number-result.Err Overflow ≡ numberResult (transformNumber ty tr v)
-  unfolding transformNumber
-  literal-outside e = rw (← ap (inType ty) (back f), ← is, e)
+module _ (ty : PrimitiveType) (tr : Transform) (v : ℤ) (f : SFits w64 v) where
+  pub literal-arm : (arm : Transform) (r : NumberResult) → tr ≡ arm → r ≡ numberResult (transformNumber ty arm (seen v))
+      → r ≡ numberResult (transformNumber ty tr v)
+  literal-arm arm r a h = rw a (rw (back f) at h)
 
-  pub literal-arm : (arm : Transform) (r : NumberResult) → b ≡ true → tr ≡ arm → r ≡ numberResult (byTransform ty arm (seen v)) → r ≡ numberResult (transformNumber ty tr v)
-  unfolding transformNumber
-  literal-arm arm r e a h = rw (← ap (inType ty) (back f), ← is, e, a) (rw (back f) at h)
+pub seen-inside : (ty : PrimitiveType) (v : ℤ) → SFits w64 v → inType ty v ≡ true → inType ty (seen v) ≡ true
+seen-inside ty v f h = rw (back f) h
 
-  pub literal-inside : b ≡ true → inType ty (seen v) ≡ true
-  literal-inside e = sym is ∙ e
-
-pub ruleset literals = (literal-outside, literal-arm, literal-inside)
+pub ruleset literals = (literal-arm, seen-inside)
 
 -- ---- a row
-module _ (ty : PrimitiveType) (tr : Transform) (row : NumberRow) (k : Checked) (is : k ≡ checkedResult (checked ty tr)) where
-  pub row-refused : (x : ErrorKind) → k ≡ checked-as.Err x → number-result.Err x ≡ numberResult (numberPartition ty tr (numberRow row))
+module _ (ty : PrimitiveType) (tr : Transform) (row : NumberRow) (k : Bool) (is : k ≡ known tr) where
+  pub row-refused : k ≡ false → number-result.Err FeatureUnsupported ≡ numberResult (numberPartition ty tr (numberRow row))
   unfolding numberPartition partition
-  row-refused x e = rw (checked-err (checked ty tr) (sym is ∙ e))
+  row-refused e = rw (← is, e)
 
-  pub row-missing : k ≡ checked-as.Ok → row ≡ number-row.Missing → number-result.Missing ≡ numberResult (numberPartition ty tr (numberRow row))
+  pub row-missing : k ≡ true → row ≡ number-row.Missing → number-result.Missing ≡ numberResult (numberPartition ty tr (numberRow row))
   unfolding numberPartition partition
-  row-missing e h = rw (checked-ok (checked ty tr) (sym is ∙ e) .1, h)
+  row-missing e h = rw (← is, e, h)
 
-  pub row-present : (v : ℤ) (f : SFits w64 v) (r : NumberResult) → k ≡ checked-as.Ok → row ≡ number-row.Present v → r ≡ numberResult (transformNumber ty tr (seen v)) → r ≡ numberResult (numberPartition ty tr (numberRow row))
+  pub row-present : (v : ℤ) (f : SFits w64 v) (r : NumberResult) → k ≡ true → row ≡ number-row.Present v
+      → r ≡ numberResult (transformNumber ty tr (seen v)) → r ≡ numberResult (numberPartition ty tr (numberRow row))
   unfolding numberPartition partition
-  row-present v f r e h q = rw (checked-ok (checked ty tr) (sym is ∙ e) .1, h) (rw (back f) at q)
+  row-present v f r e h q = rw (← is, e, h) (rw (back f) at q)
 
-pub ruleset rows = (row-refused, row-missing, row-present)
+-- a number that a row holds is of the column's type
+pub row-inside : (ty : PrimitiveType) (row : NumberRow) (v : ℤ) → SFits w64 v → OfPresent (InType ty) (numberRow row) → row ≡ number-row.Present v
+    → inType ty (seen v) ≡ true
+row-inside ty row v f h e = rw (back f) (rw e at h)
+
+pub ruleset rows = (row-refused, row-missing, row-present, row-inside)

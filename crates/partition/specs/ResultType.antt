@@ -1,50 +1,42 @@
 -- The type of a transform's values (`Transform::result_type`), or 5. Assumes nothing.
-use mathlib.Core.Bool.{Bool, true, false}
-use Rattle.values.specs.Outcomes.{Res, ok, need, _>>=_, _>>_}
+use mathlib.Core.Bool.{Bool, false, _||_}
+use mathlib.Core.List.{List, [], _∷_}
+use Rattle.values.specs.Outcomes.{Res, ok, need, _>>_}
+use Rattle.values.specs.Types.{sameType}
 use Rattle.values.specs.declared.error.ErrorKind.the-variants.{NoResultType}
 use Rattle.values.specs.declared.datatypes.PrimitiveType.{PrimitiveType}
-use Rattle.values.specs.declared.datatypes.PrimitiveType.the-variants.{Int, Long, Date, Time, Timestamp, Timestamptz, TimestampNs, TimestamptzNs, String, Binary}
+use Rattle.values.specs.declared.datatypes.PrimitiveType.the-variants.{Int, Long, Date, Timestamp, Timestamptz, TimestampNs, TimestamptzNs, String, Binary}
 use Rattle.values.specs.declared.transform.Transform.{Transform}
 use Rattle.values.specs.declared.transform.Transform.the-variants.{Identity, Truncate, Year, Month, Day, Hour, Void, Unknown}
-use Rattle.transform.specs.Temporal.{unitOf, perHour, perDay}
 
--- Truncate takes whole numbers and byte strings, and keeps their type
-abbrev pub truncates : PrimitiveType → Bool
-truncates Int = true
-truncates Long = true
-truncates Date = false
-truncates Time = false
-truncates Timestamp = false
-truncates Timestamptz = false
-truncates TimestampNs = false
-truncates TimestamptzNs = false
-truncates String = true
-truncates Binary = true
+-- a type is one of a list
+abbrev pub isOneOf : PrimitiveType → List PrimitiveType → Bool
+isOneOf ty [] = false
+isOneOf ty (t ∷ ts) = sameType ty t || isOneOf ty ts
 
-abbrev pub truncateType : PrimitiveType → Res PrimitiveType
-truncateType ty = do
-  need (truncates ty) NoResultType
-  ok ty
-
--- Year, Month and Day take the types whose values lie in a day, Hour those whose values lie in an hour
-abbrev pub withDays : PrimitiveType → PrimitiveType → Res PrimitiveType
-withDays ty to = do
-  units ← perDay (unitOf ty)
+-- the type `to` for the listed column types, 5 for every other
+abbrev pub forTypes : List PrimitiveType → PrimitiveType → PrimitiveType → Res PrimitiveType
+forTypes types ty to = do
+  need (isOneOf ty types) NoResultType
   ok to
 
-abbrev pub withHours : PrimitiveType → PrimitiveType → Res PrimitiveType
-withHours ty to = do
-  units ← perHour (unitOf ty)
-  ok to
+-- the types whose values can be cut, and those whose values lie in a day of the calendar, and in an hour of one
+abbrev pub truncatable : List PrimitiveType
+truncatable = Int ∷ Long ∷ String ∷ Binary ∷ []
 
--- Identity and Void take every type, and keep it. So does Unknown here, where the Rust has String: no answer shows it, since Unknown's 7 comes
--- next (`Partition.checked`)
+abbrev pub withDays : List PrimitiveType
+withDays = Date ∷ Timestamp ∷ Timestamptz ∷ TimestampNs ∷ TimestamptzNs ∷ []
+
+abbrev pub withHours : List PrimitiveType
+withHours = Timestamp ∷ Timestamptz ∷ TimestampNs ∷ TimestamptzNs ∷ []
+
+-- Identity, Void and Unknown take every type. Unknown's String is the Rust's, and no answer shows it: its 7 comes next
 unfoldable pub resultType : Transform → PrimitiveType → Res PrimitiveType
 resultType Identity ty = ok ty
-resultType (Truncate width) ty = truncateType ty
-resultType Year ty = withDays ty Int
-resultType Month ty = withDays ty Int
-resultType Day ty = withDays ty Date
-resultType Hour ty = withHours ty Int
+resultType (Truncate width) ty = forTypes truncatable ty ty
+resultType Year ty = forTypes withDays ty Int
+resultType Month ty = forTypes withDays ty Int
+resultType Day ty = forTypes withDays ty Date
+resultType Hour ty = forTypes withHours ty Int
 resultType Void ty = ok ty
-resultType Unknown ty = ok ty
+resultType Unknown ty = ok String

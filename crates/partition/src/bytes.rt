@@ -1,6 +1,5 @@
 // The transform of a String or Binary: a choice over `Transform` where the Rust has a boxed trait object (src/transform/mod.rs).
-use crate::result::Checked;
-use crate::result::check_transform;
+use crate::result::is_known;
 use transform::truncate::truncate_str;
 use values::datatypes::PrimitiveType;
 use values::error::ErrorKind;
@@ -17,20 +16,14 @@ pub enum BytesResult {
     Err(ErrorKind),
 }
 
+// The first code points of a String; a Binary is not cut.
 fn truncate_bytes(column: PrimitiveType, width: u32, s: &[u8]) -> BytesResult
     ensures { λ r. ⌜ r ≡ bytesResult (truncateBytes column width (now (s .entry))) ⌝ }
 {
-    match column {
-        PrimitiveType::Int => BytesResult::Err(ErrorKind::NoResultType),
-        PrimitiveType::Long => BytesResult::Err(ErrorKind::NoResultType),
-        PrimitiveType::Date => BytesResult::Err(ErrorKind::NoResultType),
-        PrimitiveType::Time => BytesResult::Err(ErrorKind::NoResultType),
-        PrimitiveType::Timestamp => BytesResult::Err(ErrorKind::NoResultType),
-        PrimitiveType::Timestamptz => BytesResult::Err(ErrorKind::NoResultType),
-        PrimitiveType::TimestampNs => BytesResult::Err(ErrorKind::NoResultType),
-        PrimitiveType::TimestamptzNs => BytesResult::Err(ErrorKind::NoResultType),
-        PrimitiveType::String => BytesResult::Prefix(truncate_str(s, width).len()),
-        PrimitiveType::Binary => BytesResult::Err(ErrorKind::FeatureUnsupported),
+    if let PrimitiveType::String = column {
+        BytesResult::Prefix(truncate_str(s, width).len())
+    } else {
+        BytesResult::Err(ErrorKind::FeatureUnsupported)
     }
 }
 
@@ -59,14 +52,13 @@ pub fn transform_bytes(
 ) -> BytesResult
     ensures { λ r. ⌜ r ≡ bytesResult (bytesPartition column transform (row present (now (s .entry)))) ⌝ }
 {
-    match check_transform(column, transform) {
-        Checked::Err(e) => BytesResult::Err(e),
-        Checked::Ok => {
-            if present {
-                transform_bytes_literal(column, transform, s)
-            } else {
-                BytesResult::Missing
-            }
+    if is_known(transform) {
+        if present {
+            transform_bytes_literal(column, transform, s)
+        } else {
+            BytesResult::Missing
         }
+    } else {
+        BytesResult::Err(ErrorKind::FeatureUnsupported)
     }
 }

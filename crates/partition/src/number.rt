@@ -1,6 +1,5 @@
 // The transform of a number: a choice over `Transform` where the Rust has a boxed trait object (src/transform/mod.rs).
-use crate::result::Checked;
-use crate::result::check_transform;
+use crate::result::is_known;
 use transform::calendar::Counted;
 use transform::calendar::Days;
 use transform::temporal::Micros;
@@ -13,12 +12,15 @@ use values::datatypes::PrimitiveType;
 use values::error::ErrorKind;
 use values::transform::Transform;
 ghost use mathlib.Core.Path.{_≡_};
-ghost use mathlib.Core.Bool.{true};
-ghost use Rattle.values.specs.Types.{inType};
+ghost use mathlib.Core.Bool.{true, not, _||_};
+ghost use lib.Dec.{leb};
+ghost use Rattle.values.specs.Types.{sameType, inType};
+ghost use Rattle.values.specs.declared.datatypes.PrimitiveType.the-variants.{Int};
 ghost use Rattle.transform.specs.Calendar.{yearOf, monthOf};
 ghost use Rattle.transform.specs.Temporal.{unitOf, dayOf};
-ghost use Rattle.partition.specs.Partition.{outsideCalendar, byCalendar, dayNumber, intHour, hourNumber, truncateNumber, transformNumber, numberPartition};
-ghost use Rattle.partition.specs.code.PartitionAnswers.{dayResult, numberResult, numberRow};
+ghost use Rattle.partition.specs.Partition.{outsideCalendar, byCalendar, dayNumber, intHour, hourNumber};
+ghost use Rattle.partition.specs.Partition.{widestIntWidth, truncateNumber, transformNumber, numberPartition};
+ghost use Rattle.partition.specs.code.PartitionAnswers.{dayResult, numberResult, numberRow, InType, OfPresent};
 
 // What a transform makes of a number.
 pub enum NumberResult {
@@ -30,38 +32,32 @@ pub enum NumberResult {
 // The widest that Truncate of an Int takes.
 const WIDEST_INT_WIDTH: u32 = 2147483647;
 
+fn takes_width(column: PrimitiveType, width: u32) -> bool
+    ensures { λ r. ⌜ r ≡ (not (sameType column Int) || leb width widestIntWidth) ⌝ }
+{
+    if let PrimitiveType::Int = column {
+        width <= WIDEST_INT_WIDTH
+    } else {
+        true
+    }
+}
+
 // Truncate of an Int or a Long.
-pub fn truncate_number(column: PrimitiveType, v: i64, width: u32) -> NumberResult
+fn truncate_number(column: PrimitiveType, v: i64, width: u32) -> NumberResult
     ensures { λ r. ⌜ r ≡ numberResult (truncateNumber column width v) ⌝ }
 {
-    match column {
-        PrimitiveType::Int => {
-            if width > WIDEST_INT_WIDTH {
-                return NumberResult::Err(ErrorKind::DataInvalid);
-            }
-            match truncate_i64(v, width) {
-                Truncated::Value(t) => {
-                    if PrimitiveType::Int.holds(t) {
-                        NumberResult::Value(t)
-                    } else {
-                        NumberResult::Err(ErrorKind::Overflow)
-                    }
-                }
-                Truncated::Overflow => NumberResult::Err(ErrorKind::Overflow),
+    if !takes_width(column, width) {
+        return NumberResult::Err(ErrorKind::DataInvalid);
+    }
+    match truncate_i64(v, width) {
+        Truncated::Value(t) => {
+            if column.holds(t) {
+                NumberResult::Value(t)
+            } else {
+                NumberResult::Err(ErrorKind::Overflow)
             }
         }
-        PrimitiveType::Long => match truncate_i64(v, width) {
-            Truncated::Value(t) => NumberResult::Value(t),
-            Truncated::Overflow => NumberResult::Err(ErrorKind::Overflow),
-        },
-        PrimitiveType::Date => NumberResult::Err(ErrorKind::NoResultType),
-        PrimitiveType::Time => NumberResult::Err(ErrorKind::NoResultType),
-        PrimitiveType::Timestamp => NumberResult::Err(ErrorKind::NoResultType),
-        PrimitiveType::Timestamptz => NumberResult::Err(ErrorKind::NoResultType),
-        PrimitiveType::TimestampNs => NumberResult::Err(ErrorKind::NoResultType),
-        PrimitiveType::TimestamptzNs => NumberResult::Err(ErrorKind::NoResultType),
-        PrimitiveType::String => NumberResult::Err(ErrorKind::NoResultType),
-        PrimitiveType::Binary => NumberResult::Err(ErrorKind::NoResultType),
+        Truncated::Overflow => NumberResult::Err(ErrorKind::Overflow),
     }
 }
 
@@ -155,21 +151,18 @@ fn hour_number(column: PrimitiveType, v: i64) -> NumberResult
 
 // A present number, transformed.
 pub fn transform_literal(column: PrimitiveType, transform: Transform, v: i64) -> NumberResult
+    requires { ⌜ inType column v ≡ true ⌝ }
     ensures { λ r. ⌜ r ≡ numberResult (transformNumber column transform v) ⌝ }
 {
-    if column.holds(v) {
-        match transform {
-            Transform::Identity => NumberResult::Value(v),
-            Transform::Truncate(width) => truncate_number(column, v, width),
-            Transform::Year => year_number(column, v),
-            Transform::Month => month_number(column, v),
-            Transform::Day => day_number(column, v),
-            Transform::Hour => hour_number(column, v),
-            Transform::Void => NumberResult::Missing,
-            Transform::Unknown => NumberResult::Err(ErrorKind::FeatureUnsupported),
-        }
-    } else {
-        NumberResult::Err(ErrorKind::Overflow)
+    match transform {
+        Transform::Identity => NumberResult::Value(v),
+        Transform::Truncate(width) => truncate_number(column, v, width),
+        Transform::Year => year_number(column, v),
+        Transform::Month => month_number(column, v),
+        Transform::Day => day_number(column, v),
+        Transform::Hour => hour_number(column, v),
+        Transform::Void => NumberResult::Missing,
+        Transform::Unknown => NumberResult::Err(ErrorKind::FeatureUnsupported),
     }
 }
 
@@ -181,13 +174,15 @@ pub enum NumberRow {
 
 // The partition value of a row of a whole-number or time column.
 pub fn transform_number(column: PrimitiveType, transform: Transform, row: NumberRow) -> NumberResult
+    requires { ⌜ OfPresent (InType column) (numberRow row) ⌝ }
     ensures { λ r. ⌜ r ≡ numberResult (numberPartition column transform (numberRow row)) ⌝ }
 {
-    match check_transform(column, transform) {
-        Checked::Err(e) => NumberResult::Err(e),
-        Checked::Ok => match row {
+    if is_known(transform) {
+        match row {
             NumberRow::Missing => NumberResult::Missing,
             NumberRow::Present(v) => transform_literal(column, transform, v),
-        },
+        }
+    } else {
+        NumberResult::Err(ErrorKind::FeatureUnsupported)
     }
 }

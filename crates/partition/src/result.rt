@@ -1,63 +1,59 @@
-// The type of a transform's values, and the refusals that come before a value is looked at: `result_type` (src/spec/transform.rs).
-use transform::temporal::TimeUnit;
-use transform::temporal::unit_of;
+// The type of a transform's values, and which transforms are known: `result_type` (src/spec/transform.rs).
 use values::datatypes::PrimitiveType;
 use values::datatypes::TypeResult;
 use values::error::ErrorKind;
 use values::transform::Transform;
+ghost use mathlib.Core.Bool.{cond};
 ghost use mathlib.Core.Path.{_≡_};
 ghost use Rattle.values.specs.code.TypeResults.{typeResult};
-ghost use Rattle.partition.specs.ResultType.{truncates, truncateType, withDays, withHours, resultType};
-ghost use Rattle.partition.specs.Partition.{known, checked};
-ghost use Rattle.partition.specs.code.PartitionAnswers.{checkedResult};
+ghost use Rattle.values.specs.declared.error.ErrorKind.the-variants.{NoResultType};
+ghost use Rattle.partition.specs.ResultType.{isOneOf, truncatable, withDays, withHours, resultType};
+ghost use Rattle.partition.specs.Partition.{known};
 
-fn truncates_type(column: PrimitiveType) -> bool
-    ensures { λ r. ⌜ r ≡ truncates column ⌝ }
+fn truncates(column: PrimitiveType) -> bool
+    ensures { λ r. ⌜ r ≡ isOneOf column truncatable ⌝ }
 {
     match column {
-        PrimitiveType::Int => true,
-        PrimitiveType::Long => true,
-        PrimitiveType::Date => false,
-        PrimitiveType::Time => false,
-        PrimitiveType::Timestamp => false,
-        PrimitiveType::Timestamptz => false,
-        PrimitiveType::TimestampNs => false,
-        PrimitiveType::TimestamptzNs => false,
-        PrimitiveType::String => true,
-        PrimitiveType::Binary => true,
+        PrimitiveType::Int | PrimitiveType::Long | PrimitiveType::String | PrimitiveType::Binary =>
+            true,
+        _ => false,
     }
 }
 
-fn truncate_type(column: PrimitiveType) -> TypeResult
-    ensures { λ r. ⌜ r ≡ typeResult (truncateType column) ⌝ }
+// Whether a column's values lie in a day of the calendar; below, in an hour of one.
+fn has_days(column: PrimitiveType) -> bool
+    ensures { λ r. ⌜ r ≡ isOneOf column withDays ⌝ }
 {
-    if truncates_type(column) {
-        TypeResult::Ok(column)
+    match column {
+        PrimitiveType::Date
+        | PrimitiveType::Timestamp
+        | PrimitiveType::Timestamptz
+        | PrimitiveType::TimestampNs
+        | PrimitiveType::TimestamptzNs => true,
+        _ => false,
+    }
+}
+
+fn has_hours(column: PrimitiveType) -> bool
+    ensures { λ r. ⌜ r ≡ isOneOf column withHours ⌝ }
+{
+    match column {
+        PrimitiveType::Timestamp
+        | PrimitiveType::Timestamptz
+        | PrimitiveType::TimestampNs
+        | PrimitiveType::TimestamptzNs => true,
+        _ => false,
+    }
+}
+
+// The type `to` for the listed columns.
+fn for_types(listed: bool, to: PrimitiveType) -> TypeResult
+    ensures { λ r. ⌜ r ≡ cond listed (TypeResult.Ok to) (TypeResult.Err NoResultType) ⌝ }
+{
+    if listed {
+        TypeResult::Ok(to)
     } else {
         TypeResult::Err(ErrorKind::NoResultType)
-    }
-}
-
-// The type `to`, for a column whose values lie in a day; below, in an hour.
-fn type_with_days(column: PrimitiveType, to: PrimitiveType) -> TypeResult
-    ensures { λ r. ⌜ r ≡ typeResult (withDays column to) ⌝ }
-{
-    match unit_of(column) {
-        TimeUnit::Day => TypeResult::Ok(to),
-        TimeUnit::Microsecond => TypeResult::Ok(to),
-        TimeUnit::Nanosecond => TypeResult::Ok(to),
-        TimeUnit::Neither => TypeResult::Err(ErrorKind::NoResultType),
-    }
-}
-
-fn type_with_hours(column: PrimitiveType, to: PrimitiveType) -> TypeResult
-    ensures { λ r. ⌜ r ≡ typeResult (withHours column to) ⌝ }
-{
-    match unit_of(column) {
-        TimeUnit::Day => TypeResult::Err(ErrorKind::NoResultType),
-        TimeUnit::Microsecond => TypeResult::Ok(to),
-        TimeUnit::Nanosecond => TypeResult::Ok(to),
-        TimeUnit::Neither => TypeResult::Err(ErrorKind::NoResultType),
     }
 }
 
@@ -67,23 +63,17 @@ pub fn result_type(transform: Transform, column: PrimitiveType) -> TypeResult
 {
     match transform {
         Transform::Identity => TypeResult::Ok(column),
-        Transform::Truncate(_) => truncate_type(column),
-        Transform::Year => type_with_days(column, PrimitiveType::Int),
-        Transform::Month => type_with_days(column, PrimitiveType::Int),
-        Transform::Day => type_with_days(column, PrimitiveType::Date),
-        Transform::Hour => type_with_hours(column, PrimitiveType::Int),
+        Transform::Truncate(_) => for_types(truncates(column), column),
+        Transform::Year => for_types(has_days(column), PrimitiveType::Int),
+        Transform::Month => for_types(has_days(column), PrimitiveType::Int),
+        Transform::Day => for_types(has_days(column), PrimitiveType::Date),
+        Transform::Hour => for_types(has_hours(column), PrimitiveType::Int),
         Transform::Void => TypeResult::Ok(column),
-        Transform::Unknown => TypeResult::Ok(column),
+        Transform::Unknown => TypeResult::Ok(PrimitiveType::String),
     }
 }
 
-// The refusals that come before a missing value's answer: 5, and Unknown's 7.
-pub enum Checked {
-    Ok,
-    Err(ErrorKind),
-}
-
-fn is_known(transform: Transform) -> bool
+pub fn is_known(transform: Transform) -> bool
     ensures { λ r. ⌜ r ≡ known transform ⌝ }
 {
     match transform {
@@ -95,20 +85,5 @@ fn is_known(transform: Transform) -> bool
         Transform::Hour => true,
         Transform::Void => true,
         Transform::Unknown => false,
-    }
-}
-
-pub fn check_transform(column: PrimitiveType, transform: Transform) -> Checked
-    ensures { λ r. ⌜ r ≡ checkedResult (checked column transform) ⌝ }
-{
-    match result_type(transform, column) {
-        TypeResult::Err(e) => Checked::Err(e),
-        TypeResult::Ok(_) => {
-            if is_known(transform) {
-                Checked::Ok
-            } else {
-                Checked::Err(ErrorKind::FeatureUnsupported)
-            }
-        }
     }
 }

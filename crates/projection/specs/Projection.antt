@@ -16,7 +16,7 @@ use Rattle.values.specs.declared.error.ErrorKind.the-variants.{FeatureUnsupport
 use Rattle.values.specs.declared.order.Ordering.{Ordering}
 use Rattle.values.specs.declared.transform.Transform.{Transform}
 use Rattle.values.specs.declared.transform.Transform.the-variants.{Identity, Truncate, Year, Month, Day, Hour, Void, Unknown}
-use Rattle.partition.specs.Partition.{checked, transformNumber, transformBytes}
+use Rattle.partition.specs.Partition.{transformNumber, transformBytes}
 use Rattle.expr.specs.Predicates.{Test, binary, set, Predicate, unary, test}
 use Rattle.projection.specs.declared.question.Question.{Question}
 use Rattle.projection.specs.declared.question.Question.the-variants.{Inclusive, Strict}
@@ -40,7 +40,7 @@ through step (test t) = do
   q ← step t
   ok (mapped test q)
 
--- 01: "Void: no predicate for any operator"; "Identity: the leaf itself"; Unknown's 7 comes before all steps
+-- 01: "Checks run .. 5, then Unknown (7), then the steps below"; "Void: no predicate for any operator"; "Identity: the leaf itself"
 module _ {A : Type 0} (compare : A → A → Ordering) (step : Test A → Res (Projected (Test A))) where
   abbrev pub byTransform : Transform → Predicate A → Res (Projected (Predicate A))
   byTransform Identity leaf = ok (some (inOrder compare leaf))
@@ -51,12 +51,6 @@ module _ {A : Type 0} (compare : A → A → Ordering) (step : Test A → Res (P
   byTransform Hour leaf = through step leaf
   byTransform Void leaf = ok none
   byTransform Unknown leaf = err FeatureUnsupported
-
-  -- 01: "Checks run .. 5, then Unknown (7), then the steps below"
-  abbrev pub projection : PrimitiveType → Transform → Predicate A → Res (Projected (Predicate A))
-  projection column transform leaf = do
-    to ← checked column transform
-    byTransform transform leaf
 
 -- ---- numbers and times
 abbrev pub liftedBy : Bool → Projected (Test ℤ) → Projected (Test ℤ)
@@ -69,12 +63,12 @@ module _ (column : PrimitiveType) (transform : Transform) where
 
   abbrev pub numberStep : Question → Test ℤ → Res (Projected (Test ℤ))
   numberStep Inclusive t = do
-    q ← inclusiveNumber numberUnder t
+    q ← inclusiveNumber column numberUnder t
     ok (liftedBy (lifted column transform) q)
-  numberStep Strict t = strictNumber numberUnder t
+  numberStep Strict t = strictNumber column numberUnder t
 
 unfoldable pub projectNumbers : Question → PrimitiveType → Transform → Predicate ℤ → Res (Projected (Predicate ℤ))
-projectNumbers question column transform leaf = projection compareNumbers (numberStep column transform question) column transform leaf
+projectNumbers question column transform leaf = byTransform compareNumbers (numberStep column transform question) transform leaf
 
 -- ---- strings and binaries
 
@@ -101,4 +95,4 @@ module _ (column : PrimitiveType) (transform : Transform) where
   bytesStep Strict t = strictBytes bytesUnder (strictLength column) (widthOf transform) t
 
 unfoldable pub projectBytes : Question → PrimitiveType → Transform → Predicate (List ℕ) → Res (Projected (Predicate (List ℕ)))
-projectBytes question column transform leaf = projection compareBytes (bytesStep column transform question) column transform leaf
+projectBytes question column transform leaf = byTransform compareBytes (bytesStep column transform question) transform leaf

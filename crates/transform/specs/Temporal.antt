@@ -32,17 +32,19 @@ microsPerHour = 3600000000
 abbrev pub nanosPerHour : ℕ
 nanosPerHour = 3600000000000
 
--- how many units an hour has: 5 where the unit knows no hours
+-- how many units an hour has
 abbrev pub perHour : TimeUnit → Res ℕ
-perHour Day = err NoResultType
 perHour Microsecond = ok microsPerHour
 perHour Nanosecond = ok nanosPerHour
+-- never met: `resultType` (`partition`) refuses these types with 5
+perHour Day = err NoResultType
 perHour Neither = err NoResultType
 
 abbrev pub perDay : TimeUnit → Res ℕ
 perDay Day = ok 1
 perDay Microsecond = ok (hoursPerDay * microsPerHour)
 perDay Nanosecond = ok (hoursPerDay * nanosPerHour)
+-- never met: `resultType` refuses these types with 5
 perDay Neither = err NoResultType
 
 -- 01: "Day and Hour divide toward minus infinity"; "Day of a Date is the Date", which is its own day's number

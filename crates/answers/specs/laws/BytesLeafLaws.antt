@@ -2,7 +2,7 @@
 -- Assumes nothing.
 use Prim.Native.Nat.{ℕ, _+_, _*_, _≤_}
 use native.Mathlib.Omega.{arith}
-use mathlib.Core.Bool.{true, true≢false}
+use mathlib.Core.Bool.{true, false, true≢false}
 use mathlib.Core.List.{List, [], _∷_, map, map-id}
 use mathlib.Core.Path.{_≡_, refl, sym, ap, _∙_}
 use lib.ListN.{length, take, drop, getD, length-append, length-take}
@@ -11,16 +11,16 @@ use borrow.Author.Tests.{le-leb}
 use Rattle.values.specs.Ascending.{AllOf}
 use Rattle.values.specs.Ascending.{ascending}
 use Rattle.values.specs.Order.{compareBytes}
-use Rattle.values.specs.laws.OutcomeLaws.{ok-not-err}
+use Rattle.values.specs.laws.OutcomeLaws.{passed}
+use Rattle.values.specs.laws.TestLaws.{clash}
 use Rattle.values.specs.Outcomes.{Res, ok, err, _>>=_}
-use Rattle.values.specs.Types.{contentSize, typeNumber}
+use Rattle.values.specs.Types.{bytes, layout, contentSize, typeNumber}
 use Rattle.values.specs.declared.datatypes.PrimitiveType.{PrimitiveType}
 use Rattle.values.specs.declared.datatypes.PrimitiveType.the-variants.{Int, Long, Date, Time, Timestamp, Timestamptz, TimestampNs, TimestamptzNs, String, Binary}
 use Rattle.values.specs.declared.transform.Transform.{Transform}
 use Rattle.values.specs.declared.transform.Transform.the-variants.{Identity, Truncate, Year, Month, Day, Hour, Void, Unknown}
-use Rattle.partition.specs.ResultType.{resultType}
-use Rattle.transform.specs.Temporal.{unitOf}
-use Rattle.transform.specs.declared.temporal.TimeUnit.the-variants.{Neither}
+use Rattle.values.specs.declared.error.ErrorKind.the-variants.{NoResultType}
+use Rattle.partition.specs.ResultType.{isOneOf, forTypes, withDays, withHours, resultType}
 use Rattle.expr.specs.Operators.{operatorNumber, SetOperator, isIn, notIn, Operator, none, one, many, byArity, operatorOf, takesOne, takesMany}
 use Rattle.expr.specs.laws.PredicateLaws.{operator-of}
 use Rattle.expr.specs.Predicates.{test}
@@ -46,17 +46,21 @@ use Rattle.answers.specs.laws.OneLiteralLaws.{one-there, one-literal}
 use Rattle.answers.specs.declared.leaf.Leaf.{Leaf}
 
 -- ---- a column of byte strings has steps under Identity and Truncate only
-no-time : (column : PrimitiveType) → BytesColumn column → unitOf column ≡ Neither
-no-time Int e = cc
-no-time Long e = cc
-no-time Date e = cc
-no-time Time e = cc
-no-time Timestamp e = cc
-no-time Timestamptz e = cc
-no-time TimestampNs e = cc
-no-time TimestamptzNs e = cc
-no-time String e = refl
-no-time Binary e = refl
+pub no-time : (column : PrimitiveType) (n : ℕ) → layout column ≡ bytes n → (isOneOf column withDays ≡ false) × (isOneOf column withHours ≡ false)
+no-time Int n e = (cc, cc)
+no-time Long n e = (cc, cc)
+no-time Date n e = (cc, cc)
+no-time Time n e = (cc, cc)
+no-time Timestamp n e = (cc, cc)
+no-time Timestamptz n e = (cc, cc)
+no-time TimestampNs n e = (cc, cc)
+no-time TimestamptzNs n e = (cc, cc)
+no-time String n e = (refl, refl)
+no-time Binary n e = (refl, refl)
+
+pub not-listed : {X : Type 0} (types : List PrimitiveType) (column t : PrimitiveType) {to : PrimitiveType} → isOneOf column types ≡ false
+    → forTypes types column t ≡ ok to → X
+not-listed types column t e r = clash (passed (isOneOf column types) NoResultType _ r .0) e
 
 -- what Identity and every Truncate have, each transform with steps has
 pub by-transform : (P : Transform → Type 0) (column to : PrimitiveType) → BytesColumn column
@@ -65,10 +69,10 @@ pub by-transform : (P : Transform → Type 0) (column to : PrimitiveType) → By
 unfolding resultType
 by-transform P column to bs same cut Identity r h = same
 by-transform P column to bs same cut (Truncate width) r h = cut width
-by-transform P column to bs same cut Year r h = ok-not-err (rw (no-time column bs) at r)
-by-transform P column to bs same cut Month r h = ok-not-err (rw (no-time column bs) at r)
-by-transform P column to bs same cut Day r h = ok-not-err (rw (no-time column bs) at r)
-by-transform P column to bs same cut Hour r h = ok-not-err (rw (no-time column bs) at r)
+by-transform P column to bs same cut Year r h = not-listed withDays column Int (no-time column contentSize bs .0) r
+by-transform P column to bs same cut Month r h = not-listed withDays column Int (no-time column contentSize bs .0) r
+by-transform P column to bs same cut Day r h = not-listed withDays column Date (no-time column contentSize bs .0) r
+by-transform P column to bs same cut Hour r h = not-listed withHours column Int (no-time column contentSize bs .1) r
 by-transform P column to bs same cut Void r h = absurd (true≢false (cc))
 by-transform P column to bs same cut Unknown r h = absurd (true≢false (cc))
 

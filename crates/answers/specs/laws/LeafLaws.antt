@@ -4,7 +4,6 @@ use mathlib.Core.Bool.{Bool, true, false, not, _||_}
 use mathlib.Core.List.{List, [], _∷_, map}
 use mathlib.Core.Path.{_≡_, refl, _∙_}
 use lib.IntN.{ℤ}
-use Rattle.values.specs.Order.{compareNumbers, compareBytes}
 use Rattle.values.specs.Outcomes.{Res, ok, err, need, _>>=_, _>>_}
 use Rattle.values.specs.laws.OutcomeLaws.{passing, failing}
 use Rattle.values.specs.Types.{Layout, number, bytes, layout, sameType}
@@ -12,16 +11,13 @@ use Rattle.values.specs.Words.{leNumber, signed}
 use Rattle.values.specs.declared.datatypes.PrimitiveType.{PrimitiveType}
 use Rattle.values.specs.declared.datatypes.PrimitiveType.the-variants.{Int, Long, Date, Time, Timestamp, Timestamptz, TimestampNs, TimestamptzNs, String, Binary}
 use Rattle.values.specs.declared.error.ErrorKind.{ErrorKind}
-use Rattle.values.specs.declared.error.ErrorKind.the-variants.{NotUtf8, FeatureUnsupported}
-use Rattle.values.specs.declared.order.Ordering.{Ordering}
+use Rattle.values.specs.declared.error.ErrorKind.the-variants.{NotUtf8}
 use Rattle.values.specs.declared.transform.Transform.{Transform}
-use Rattle.values.specs.declared.transform.Transform.the-variants.{Identity, Truncate, Year, Month, Day, Hour, Void, Unknown}
-use Rattle.partition.specs.Partition.{known, checked}
 use Rattle.partition.specs.ResultType.{resultType}
 use Rattle.expr.specs.Operators.{Operator, none, one, many, byArity}
 use Rattle.expr.specs.laws.PredicateLaws.{arity-of}
-use Rattle.expr.specs.Predicates.{Test, Predicate, unary, test, binary, set, operatorIn, literalsIn}
-use Rattle.projection.specs.Projection.{byTransform, projection, numberStep, projectNumbers, bytesStep, projectBytes}
+use Rattle.expr.specs.Predicates.{Predicate, unary, test, binary, set, operatorIn, literalsIn}
+use Rattle.projection.specs.Projection.{projectNumbers, projectBytes}
 use Rattle.projection.specs.Steps.{Projected}
 use Rattle.projection.specs.declared.question.Question.{Question}
 use Rattle.answers.specs.Answers.{projected, projectedLeaf}
@@ -43,25 +39,6 @@ map-leaf f other (none o) ls = refl
 map-leaf f other (one o) [] = refl
 map-leaf f other (one o) (l ∷ ls) = refl
 map-leaf f other (many o) ls = refl
-
--- Unknown's 7 is what its steps give
-unknown-refused : {A : Type 0} (compare : A → A → Ordering) (step : Test A → Res (Projected (Test A))) (t : Transform) (to : PrimitiveType) (l : Predicate A)
-    → ((need (known t) FeatureUnsupported >> ok to) >>= λ to. byTransform compare step t l) ≡ byTransform compare step t l
-unknown-refused compare step Identity to l = refl
-unknown-refused compare step (Truncate width) to l = refl
-unknown-refused compare step Year to l = refl
-unknown-refused compare step Month to l = refl
-unknown-refused compare step Day to l = refl
-unknown-refused compare step Hour to l = refl
-unknown-refused compare step Void to l = refl
-unknown-refused compare step Unknown to l = refl
-
--- a column that has a result type goes on to the steps
-module _ {A : Type 0} (compare : A → A → Ordering) (step : Test A → Res (Projected (Test A))) (column to : PrimitiveType) (transform : Transform)
-    (result : resultType transform column ≡ ok to) where
-  pub after-checks : (l : Predicate A) → projection compare step column transform l ≡ byTransform compare step transform l
-  unfolding checked
-  after-checks l = rw result (unknown-refused compare step transform to l)
 
 -- no column of numbers is a String
 pub numbers-string : (column : PrimitiveType) (n : ℕ) → layout column ≡ number n → sameType column String ≡ false
@@ -128,5 +105,5 @@ leaf-steps x leaf h r = checked-leaf (x .question) (x .column) (x .transform) le
         (λ n. resultType (x .transform) (x .column) >>= λ to. numbersWritten to (projectNumbers (x .question) (x .column) (x .transform) (numberLeaf (x .question) (x .column) (x .transform) leaf n)))
         (resultType (x .transform) (x .column) >>= λ to. bytesWritten to (projectBytes (x .question) (x .column) (x .transform) leaf))
         ≡ byLayout l (λ n. numberSteps x (mapLiterals (λ bs. signed n (leNumber bs)) leaf)) (byteSteps x leaf)
-    go (number n) = rw (r, after-checks compareNumbers (numberStep (x .column) (x .transform) (x .question)) (x .column) (x .to) (x .transform) r (mapLiterals (λ bs. signed n (leNumber bs)) leaf))
-    go (bytes n) = rw (r, after-checks compareBytes (bytesStep (x .column) (x .transform) (x .question)) (x .column) (x .to) (x .transform) r leaf)
+    go (number n) = rw r
+    go (bytes n) = rw r

@@ -14,10 +14,11 @@ use Rattle.values.specs.Outcomes.{ok, _>>=_}
 use Rattle.values.specs.Types.{Layout, number, bytes, layout, fits, inLayout, inType}
 use Rattle.values.specs.laws.TypesLaws.{Sized, sized}
 use Rattle.values.specs.laws.WordLaws.{signed-in-range, length-bytes}
-use Rattle.values.specs.Words.{over, unsigned}
+use Rattle.values.specs.Words.{over, signed, unsigned}
 use Rattle.values.specs.declared.datatypes.PrimitiveType.{PrimitiveType}
 use Rattle.values.specs.declared.transform.Transform.{Transform}
 use Rattle.values.specs.declared.transform.Transform.the-variants.{Identity}
+use Rattle.partition.specs.code.PartitionAnswers.{InType}
 use Rattle.partition.specs.ResultType.{resultType}
 use Rattle.expr.specs.Operators.{Binary as BinaryOperator, one, isIn, byArity, takesOne}
 use Rattle.expr.specs.Predicates.{Test, Predicate, test, binary, set, operatorIn, literalsIn}
@@ -35,7 +36,6 @@ use Rattle.write.specs.Written.{answerBytes, answerSheet, numberBytes}
 use Rattle.write.specs.laws.WrittenLaws.{length-answer}
 use Rattle.answers.specs.code.Settled.{Settled}
 use Rattle.sheet.specs.Values.{mapLiterals}
-use Rattle.answers.specs.laws.LeafLaws.{after-checks}
 use Rattle.answers.specs.code.Leaves.{numbersWritten, numberSteps, numberLeafAt, oneWritten, NumbersIn, isIdentity, ReadyLeaf, NumberColumn}
 use Rattle.answers.specs.laws.OneLiteralLaws.{takes-one, one-literal}
 use Rattle.sheet.specs.laws.ReadLaws.{map-operator, map-literals}
@@ -49,13 +49,13 @@ number-fits : (l : Layout) (z : ℤ) → inLayout l z ≡ true → fits l (lengt
 number-fits (number n) z h = eq-eqb _ n (length-bytes n (unsigned n z))
 number-fits (bytes n) z h = absurd (false≢true h)
 
-numbers-fit : (to : PrimitiveType) (zs : List ℤ) → AllOf (λ z. inType to z ≡ true) zs → Fits to (map (λ z. numberBytes (layout to) z) zs)
+numbers-fit : (to : PrimitiveType) (zs : List ℤ) → AllOf (InType to) zs → Fits to (map (λ z. numberBytes (layout to) z) zs)
 unfolding inType
 numbers-fit to [] h = tt
 numbers-fit to (z ∷ zs) h = (number-fits (layout to) z (h .0), numbers-fit to zs (h .1))
 
 -- the head and the literals of a predicate whose numbers are of the type are its answer sheet
-pub predicate-written : (to : PrimitiveType) (p : Predicate ℤ) {before after : List ℕ} {n : ℕ} → AllOf (λ z. inType to z ≡ true) (literalsIn p)
+pub predicate-written : (to : PrimitiveType) (p : Predicate ℤ) {before after : List ℕ} {n : ℕ} → AllOf (InType to) (literalsIn p)
     → after ≡ over 0 (answerBytes (operatorIn p) to (map (λ z. numberBytes (layout to) z) (literalsIn p))) before
     → n ≡ recordSize * suc (length (literalsIn p))
     → Settled (numbersWritten to (ok (some p))) before after (Written n)
@@ -72,14 +72,18 @@ predicate-written to p {before} inside written size =
 
 -- ---- numbers that are read are of the column's type
 
-module _ (column : PrimitiveType) (records : NumberColumn column) (s : List ℕ) where
-  pub number-inside : (k : ℕ) → inType column (numberAt (layout column) s k) ≡ true
+module _ (column : PrimitiveType) (records : NumberColumn column) where
+  pub signed-inside : (k : ℕ) → InType column (signed (records .size) k)
   unfolding inType
-  number-inside k = rw (records .is) (signed-in-range (records .size) _ (subst Sized (records .is) (sized column)))
+  signed-inside k = rw (records .is) (signed-in-range (records .size) k (subst Sized (records .is) (sized column)))
 
-  pub numbers-inside : (ks : List ℕ) → AllOf (λ z. inType column z ≡ true) (map (numberAt (layout column) s) ks)
-  numbers-inside [] = tt
-  numbers-inside (k ∷ ks) = (number-inside k, numbers-inside ks)
+  module _ (s : List ℕ) where
+    pub number-inside : (k : ℕ) → InType column (numberAt (layout column) s k)
+    number-inside k = rw (records .is) (signed-inside _)
+
+    pub numbers-inside : (ks : List ℕ) → AllOf (InType column) (map (numberAt (layout column) s) ks)
+    numbers-inside [] = tt
+    numbers-inside (k ∷ ks) = (number-inside k, numbers-inside ks)
 
 -- ---- a leaf with one literal
 pub identity-type : (transform : Transform) (column to : PrimitiveType) → transform ≡ Identity → resultType transform column ≡ ok to → column ≡ to
@@ -124,7 +128,7 @@ module _ {x : Leaf} {s records out : List ℕ} (column : NumberColumn (x .column
     unfolding numberSteps
     one-projected = rw (one-leaf, stepped)
 
-    landed : (q : Test ℤ) → numberProjected p ≡ ok (some q) → AllOf (λ z. inType (x .to) z ≡ true) (literalsIn (test q))
+    landed : (q : Test ℤ) → numberProjected p ≡ ok (some q) → AllOf (InType (x .to)) (literalsIn (test q))
     unfolding projectNumbers
     landed q e =
         numbers-land
@@ -136,16 +140,7 @@ module _ {x : Leaf} {s records out : List ℕ} (column : NumberColumn (x .column
         (test q)
         (ready .result)
         (number-inside (x .column) column s (getD records 0 0), tt)
-        (after-checks
-        compareNumbers
-        (numberStep (x .column) (x .transform) (x .question))
-        (x .column)
-        (x .to)
-        (x .transform)
-        (ready .result)
-        (test (binary o literal))
-        ∙ stepped
-        ∙ rw e)
+        (stepped ∙ rw e)
         .all
 
   pub projected-inside : isIdentity (x .transform) ≡ false → (p : NumberProjection)

@@ -6,16 +6,16 @@ use mathlib.Core.List.{List, map}
 use mathlib.Core.Path.{_≡_, refl, sym, ap, ap₂, subst, _∙_}
 use lib.IntN.{ℤ}
 use lib.ListN.{length, take}
-use Rattle.values.specs.Ascending.{ascending}
-use Rattle.values.specs.Ascending.{AllOf}
+use Rattle.values.specs.Ascending.{AllOf, ascending}
 use Rattle.values.specs.Order.{compareNumbers}
 use Rattle.values.specs.Outcomes.{Res, ok, _>>=_}
-use Rattle.values.specs.Types.{layout, inType}
+use Rattle.values.specs.Types.{layout}
 use Rattle.values.specs.Words.{over}
 use Rattle.values.specs.declared.datatypes.PrimitiveType.{PrimitiveType}
 use Rattle.values.specs.declared.error.ErrorKind.{ErrorKind}
 use Rattle.values.specs.declared.transform.Transform.{Transform}
 use Rattle.values.specs.declared.transform.Transform.the-variants.{Identity, Truncate, Year, Month, Day, Hour, Void, Unknown}
+use Rattle.partition.specs.code.PartitionAnswers.{InType}
 use Rattle.expr.specs.Operators.{Operator, SetOperator, none, one, many, isIn, notIn, byArity, operatorOf, takesMany}
 use Rattle.expr.specs.laws.PredicateLaws.{operator-of}
 use Rattle.expr.specs.Predicates.{Predicate, test, set}
@@ -68,20 +68,19 @@ module _ (column : PrimitiveType) (question : Question) (o : SetOperator) (ls : 
   not-lifted Inclusive = refl
   not-lifted Strict = refl
 
-  module _ (inside : AllOf (λ z. inType column z ≡ true) ls) where
-    set-itself : ok (some (test (set o (ascending compareNumbers ls)))) ≡ asPredicate (collect Identity)
-    set-itself = rw (not-lifted question, number-set-identity column ls inside)
+  set-itself : ok (some (test (set o (ascending compareNumbers ls)))) ≡ asPredicate (collect Identity)
+  set-itself = rw (not-lifted question, number-set-identity column ls)
 
-    set-steps : (transform : Transform) → hasSteps transform ≡ true → keeps transform question (many o) ≡ true
-        → byTransform compareNumbers (numberStep column transform question) transform (test (set o ls)) ≡ asPredicate (collect transform)
-    set-steps Identity h k = set-itself
-    set-steps (Truncate width) h k = set-step (Truncate width) k
-    set-steps Year h k = set-step Year k
-    set-steps Month h k = set-step Month k
-    set-steps Day h k = set-step Day k
-    set-steps Hour h k = set-step Hour k
-    set-steps Void h k = absurd (false≢true h)
-    set-steps Unknown h k = absurd (false≢true h)
+  set-steps : (transform : Transform) → hasSteps transform ≡ true → keeps transform question (many o) ≡ true
+      → byTransform compareNumbers (numberStep column transform question) transform (test (set o ls)) ≡ asPredicate (collect transform)
+  set-steps Identity h k = set-itself
+  set-steps (Truncate width) h k = set-step (Truncate width) k
+  set-steps Year h k = set-step Year k
+  set-steps Month h k = set-step Month k
+  set-steps Day h k = set-step Day k
+  set-steps Hour h k = set-step Hour k
+  set-steps Void h k = absurd (false≢true h)
+  set-steps Unknown h k = absurd (false≢true h)
 
 -- ---- what is answered
 -- the set of the literals in the records
@@ -107,7 +106,7 @@ module _ {x : Leaf} {s records out : List ℕ} (column : NumberColumn (x .column
   unfolding numberSteps
   leaf-steps =
       let k : keeps (x .transform) (x .question) (many o) ≡ true = subst (λ (a : Operator). keeps (x .transform) (x .question) a ≡ true) is-many kept in
-      rw (is-many, set-steps (x .column) (x .question) o literals (numbers-inside (x .column) column s (take (x .count) records)) (x .transform) (ready .known) k)
+      rw (is-many, set-steps (x .column) (x .question) o literals (x .transform) (ready .known) k)
 
   pub set-refused : {before : List ℕ} {k : ErrorKind} → collected found ≡ collected-as.Err k
       → Settled (numberSteps x (numberLeafAt x s records)) before before (Err k)
@@ -126,14 +125,17 @@ module _ {x : Leaf} {s records out : List ℕ} (column : NumberColumn (x .column
     members : take n array ≡ zs
     members = ap (λ (k : ℕ). take k array) count-is ∙ filled .members zs is-found .0
 
-    landed : AllOf (λ z. inType (x .to) z ≡ true) zs
-    landed = number-set-lands (liftsFor (x .question) (x .column) (x .transform)) (x .column) (x .transform) literals is-found (x .to) (ready .result)
+    landed : AllOf (InType (x .to)) zs
+    landed =
+        let lifts = liftsFor (x .question) (x .column) (x .transform) in
+        let inside = numbers-inside (x .column) column s (take (x .count) records) in
+        number-set-lands lifts (x .column) (x .transform) literals is-found (x .to) (ready .result) inside
 
     -- the array's first numbers are few, and of the result type
     pub set-few : n ≤ 128
     set-few = omega (arith, count-is, filled .members zs is-found .1)
 
-    pub set-inside : AllOf (λ z. inType (x .to) z ≡ true) (take n array)
+    pub set-inside : AllOf (InType (x .to)) (take n array)
     set-inside = rw members landed
 
     pub set-written : {before after : List ℕ} {m : ℕ}

@@ -1,12 +1,11 @@
 -- What the code of the steps for one number answers, row by row, as the definitions have it. Assumes nothing.
-use mathlib.Core.Bool.{true, cond}
+use mathlib.Core.Bool.{Bool, true, cond}
 use mathlib.Core.List.{[], _∷_}
 use mathlib.Core.Path.{_≡_}
 use lib.IntN.{ℤ, sucℤ, predℤ}
 use Rattle.values.specs.Outcomes.{Res, ok, err, _>>=_}
 use Rattle.values.specs.Types.{inType}
 use Rattle.values.specs.declared.datatypes.PrimitiveType.{PrimitiveType}
-use Rattle.values.specs.declared.datatypes.PrimitiveType.the-variants.{Long}
 use Rattle.values.specs.declared.error.ErrorKind.the-variants.{Overflow}
 use Rattle.values.specs.declared.transform.Transform.{Transform}
 use Rattle.expr.specs.Operators as operators
@@ -14,7 +13,7 @@ use Rattle.expr.specs.Operators.{Operator, byArity, takesOne}
 use Rattle.expr.specs.Predicates.{Test, binary, set}
 use Rattle.expr.specs.declared.operator.PredicateOperator.{PredicateOperator}
 use Rattle.expr.specs.declared.operator.PredicateOperator.the-variants.{LessThan, LessThanOrEq, GreaterThan, GreaterThanOrEq, Eq, NotEq, StartsWith, NotStartsWith}
-use Rattle.projection.specs.Projection.{numberStep}
+use Rattle.projection.specs.Projection.{liftedBy, numberStep}
 use Rattle.projection.specs.Steps.{Projected, some, none}
 use Rattle.numbers.specs.declared.steps.Boundary.{Boundary}
 use Rattle.numbers.specs.declared.steps.Boundary.the-variants as boundary
@@ -29,48 +28,49 @@ numberLeaf question column transform (operators.none o) l = ok none
 numberLeaf question column transform (operators.one o) l = numberStep column transform question (binary o l)
 numberLeaf question column transform (operators.many o) l = ok none
 
--- a neighbour of L, where 64 bits hold it
-abbrev pub neighbour : PredicateOperator → ℤ → Boundary
-neighbour o z = cond (inType Long z) (boundary.At o z) (boundary.Err Overflow)
+-- a neighbour of L, where it does not leave the column's type
+abbrev pub neighbour : PrimitiveType → PredicateOperator → ℤ → Boundary
+neighbour column o z = cond (inType column z) (boundary.At o z) (boundary.Err Overflow)
 
-abbrev pub inclusiveBoundary : Operator → ℤ → Boundary
-inclusiveBoundary (operators.none o) l = boundary.None
-inclusiveBoundary (operators.one operators.lessThan) l = neighbour LessThanOrEq (predℤ l)
-inclusiveBoundary (operators.one operators.lessThanOrEq) l = boundary.At LessThanOrEq l
-inclusiveBoundary (operators.one operators.greaterThan) l = neighbour GreaterThanOrEq (sucℤ l)
-inclusiveBoundary (operators.one operators.greaterThanOrEq) l = boundary.At GreaterThanOrEq l
-inclusiveBoundary (operators.one operators.eq) l = boundary.At Eq l
-inclusiveBoundary (operators.one operators.notEq) l = boundary.None
-inclusiveBoundary (operators.one operators.startsWith) l = boundary.At StartsWith l
-inclusiveBoundary (operators.one operators.notStartsWith) l = boundary.At NotStartsWith l
-inclusiveBoundary (operators.many o) l = boundary.None
+abbrev pub inclusiveBoundary : PrimitiveType → Operator → ℤ → Boundary
+inclusiveBoundary column (operators.none o) l = boundary.None
+inclusiveBoundary column (operators.one operators.lessThan) l = neighbour column LessThanOrEq (predℤ l)
+inclusiveBoundary column (operators.one operators.lessThanOrEq) l = boundary.At LessThanOrEq l
+inclusiveBoundary column (operators.one operators.greaterThan) l = neighbour column GreaterThanOrEq (sucℤ l)
+inclusiveBoundary column (operators.one operators.greaterThanOrEq) l = boundary.At GreaterThanOrEq l
+inclusiveBoundary column (operators.one operators.eq) l = boundary.At Eq l
+inclusiveBoundary column (operators.one operators.notEq) l = boundary.None
+inclusiveBoundary column (operators.one operators.startsWith) l = boundary.At StartsWith l
+inclusiveBoundary column (operators.one operators.notStartsWith) l = boundary.At NotStartsWith l
+inclusiveBoundary column (operators.many o) l = boundary.None
 
-abbrev pub strictBoundary : Operator → ℤ → Boundary
-strictBoundary (operators.none o) l = boundary.None
-strictBoundary (operators.one operators.lessThan) l = boundary.At LessThan l
-strictBoundary (operators.one operators.lessThanOrEq) l = neighbour LessThan (sucℤ l)
-strictBoundary (operators.one operators.greaterThan) l = boundary.At GreaterThan l
-strictBoundary (operators.one operators.greaterThanOrEq) l = neighbour GreaterThan (predℤ l)
-strictBoundary (operators.one operators.eq) l = boundary.None
-strictBoundary (operators.one operators.notEq) l = boundary.At NotEq l
-strictBoundary (operators.one operators.startsWith) l = boundary.None
-strictBoundary (operators.one operators.notStartsWith) l = boundary.None
-strictBoundary (operators.many o) l = boundary.None
+abbrev pub strictBoundary : PrimitiveType → Operator → ℤ → Boundary
+strictBoundary column (operators.none o) l = boundary.None
+strictBoundary column (operators.one operators.lessThan) l = boundary.At LessThan l
+strictBoundary column (operators.one operators.lessThanOrEq) l = neighbour column LessThan (sucℤ l)
+strictBoundary column (operators.one operators.greaterThan) l = boundary.At GreaterThan l
+strictBoundary column (operators.one operators.greaterThanOrEq) l = neighbour column GreaterThan (predℤ l)
+strictBoundary column (operators.one operators.eq) l = boundary.None
+strictBoundary column (operators.one operators.notEq) l = boundary.At NotEq l
+strictBoundary column (operators.one operators.startsWith) l = boundary.None
+strictBoundary column (operators.one operators.notStartsWith) l = boundary.None
+strictBoundary column (operators.many o) l = boundary.None
 
--- an operator with T of its literal
-abbrev pub atBoundary : (ℤ → Res ℤ) → Boundary → Res (Projected (Test ℤ))
-atBoundary T boundary.None = ok none
-atBoundary T (boundary.At o l) = do
+-- an operator with T of its literal, lifted where that is asked for
+abbrev pub atBoundary : Bool → (ℤ → Res ℤ) → Boundary → Res (Projected (Test ℤ))
+atBoundary lifts T boundary.None = ok none
+atBoundary lifts T (boundary.At o l) = do
   t ← T l
-  ok (oneTest (byArity o) t)
-atBoundary T (boundary.Err e) = err e
+  ok (liftedBy lifts (oneTest (byArity o) t))
+atBoundary lifts T (boundary.Err e) = err e
 
--- the operator of a boundary, and of a projection, takes one literal
-abbrev pub OneAt : Boundary → Type 0
-OneAt boundary.None = Unit {0}
-OneAt (boundary.At o l) = takesOne (byArity o) ≡ true
-OneAt (boundary.Err e) = Unit {0}
+-- the operator of a boundary takes one literal, and its number is of the column's type
+abbrev pub OneAt : PrimitiveType → Boundary → Type 0
+OneAt column boundary.None = Unit {0}
+OneAt column (boundary.At o l) = (takesOne (byArity o) ≡ true) × (inType column l ≡ true)
+OneAt column (boundary.Err e) = Unit {0}
 
+-- the operator of a projection takes one literal
 abbrev pub OneIn : NumberProjection → Type 0
 OneIn number-projection.None = Unit {0}
 OneIn (number-projection.One o t) = takesOne (byArity o) ≡ true

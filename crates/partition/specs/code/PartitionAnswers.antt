@@ -1,16 +1,17 @@
 -- What each enum of the code says, as the definitions have it. Assumes nothing.
 use Prim.Native.Nat.{ℕ}
+use mathlib.Core.Bool.{true}
 use mathlib.Core.List.{List}
+use mathlib.Core.Path.{_≡_}
 use lib.ListN.{length}
 use lib.IntN.{ℤ}
 use Rattle.values.specs.Outcomes.{Res, ok, err, Row, missing, present}
+use Rattle.values.specs.Types.{inType}
 use Rattle.values.specs.declared.datatypes.PrimitiveType.{PrimitiveType}
 use Rattle.partition.specs.declared.number.DayResult.{DayResult}
 use Rattle.partition.specs.declared.number.DayResult.the-variants as day-result
 use Rattle.partition.specs.declared.number.NumberRow.{NumberRow}
 use Rattle.partition.specs.declared.number.NumberRow.the-variants as number-row
-use Rattle.partition.specs.declared.result.Checked.{Checked}
-use Rattle.partition.specs.declared.result.Checked.the-variants as checked-as
 use Rattle.partition.specs.declared.bytes.BytesResult.{BytesResult}
 use Rattle.partition.specs.declared.bytes.BytesResult.the-variants as bytes-result
 use Rattle.partition.specs.declared.number.NumberResult.{NumberResult}
@@ -31,9 +32,14 @@ abbrev pub numberRow : NumberRow → Row ℤ
 numberRow number-row.Missing = missing
 numberRow (number-row.Present v) = present v
 
-abbrev pub checkedResult : Res PrimitiveType → Checked
-checkedResult (ok t) = checked-as.Ok
-checkedResult (err e) = checked-as.Err e
+-- a number of the type
+abbrev pub InType : PrimitiveType → ℤ → Type 0
+InType ty z = inType ty z ≡ true
+
+-- what is said of a present value
+abbrev pub OfPresent : {A : Type 0} → (A → Type 0) → Row A → Type 0
+OfPresent g missing = Unit {0}
+OfPresent g (present v) = g v
 
 -- ---- strings and binaries
 

@@ -3,19 +3,27 @@ use Prim.Native.Nat.{ℕ}
 use mathlib.Core.Bool.{true}
 use mathlib.Core.List.{List}
 use mathlib.Core.Logic.{_⊎_, inl, inr}
-use mathlib.Core.Path.{_≡_, refl, sym, subst}
+use mathlib.Core.Path.{_≡_, refl, sym, ap, subst, _∙_}
 use lib.ListN.{length, take}
 use lib.Seq.{take-length}
+use borrow.Author.Tests.{eqb-true}
+use Rattle.values.specs.Numbered.{find}
 use Rattle.values.specs.Outcomes.{ok, Row, missing, present}
-use Rattle.values.specs.laws.OutcomeLaws.{ok-inj, present-inj, ok-not-err, missing-not-present}
+use Rattle.values.specs.laws.OutcomeLaws.{ok-inj, present-inj, ok-not-err, missing-not-present, passed}
+use Rattle.values.specs.Types.{types, typeNumber, sameType}
+use Rattle.values.specs.laws.TypesLaws.{type-found}
 use Rattle.values.specs.Utf8.{utf8}
+use Rattle.values.specs.declared.error.ErrorKind.the-variants.{FeatureUnsupported}
 use Rattle.values.specs.declared.datatypes.PrimitiveType.{PrimitiveType}
-use Rattle.values.specs.declared.datatypes.PrimitiveType.the-variants.{Int, Long, Date, Time, Timestamp, Timestamptz, TimestampNs, TimestamptzNs, String, Binary}
+use Rattle.values.specs.declared.datatypes.PrimitiveType.the-variants.{String}
 use Rattle.values.specs.declared.transform.Transform.{Transform}
 use Rattle.values.specs.declared.transform.Transform.the-variants.{Identity, Truncate, Year, Month, Day, Hour, Void, Unknown}
 use Rattle.transform.specs.Truncate.{firstCodePoints}
 use Rattle.transform.specs.laws.StringLaws.{first-take, first-utf8}
 use Rattle.partition.specs.Partition.{truncateBytes, transformBytes}
+
+pub same-type : (a b : PrimitiveType) → sameType a b ≡ true → a ≡ b
+same-type a b e = ok-inj (sym (type-found a) ∙ ap (find types) (eqb-true (typeNumber a) (typeNumber b) e) ∙ type-found b)
 
 -- a value is the beginning of what it is made of, and UTF-8 where that is
 pub record Begins (s t : List ℕ) : Type 0 where
@@ -31,16 +39,7 @@ bytes-by e = present-inj (ok-inj e)
 -- Truncate cuts a String, and refuses every other type
 cut-of : (ty : PrimitiveType) (width : ℕ) (s : List ℕ) {r : Row (List ℕ)} → truncateBytes ty width s ≡ ok r
     → (ty ≡ String) × (present (firstCodePoints width s) ≡ r)
-cut-of Int width s e = ok-not-err e
-cut-of Long width s e = ok-not-err e
-cut-of Date width s e = ok-not-err e
-cut-of Time width s e = ok-not-err e
-cut-of Timestamp width s e = ok-not-err e
-cut-of Timestamptz width s e = ok-not-err e
-cut-of TimestampNs width s e = ok-not-err e
-cut-of TimestamptzNs width s e = ok-not-err e
-cut-of String width s e = (refl, ok-inj e)
-cut-of Binary width s e = ok-not-err e
+cut-of ty width s e = let a = passed (sameType ty String) FeatureUnsupported _ e in (same-type ty String (a .0), ok-inj (a .1))
 
 cut-begins : (ty : PrimitiveType) (width : ℕ) (s t : List ℕ) → truncateBytes ty width s ≡ ok (present t) → Begins s t
 cut-begins ty width s t e = subst (Begins s) (present-inj (cut-of ty width s e .1)) (record { beginning = first-take width s; string = first-utf8 width s })

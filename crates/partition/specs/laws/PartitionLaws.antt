@@ -1,17 +1,18 @@
--- What the transforms of numbers promise to the crates above: the order is kept, only numbers of the column's type have a value, and the value is of
--- the result type. `BytesPartitionLaws` has those of strings and binaries. Assumes nothing.
+-- What the transforms of numbers promise to the crates above: the order is kept, and the value of a number of the column's type is of the result type.
+-- `BytesPartitionLaws` has those of strings and binaries. Assumes nothing.
 use Prim.Native.Nat.{ℕ, _≤_, _<_}
 use native.Mathlib.Omega.{arith}
-use mathlib.Core.Bool.{true, false, true≢false}
+use mathlib.Core.Bool.{true, not, _||_, true≢false}
+use mathlib.Core.List.{List}
 use mathlib.Core.Path.{_≡_, refl, sym, ap, subst, _∙_}
 use lib.Dec.{ltb, leb}
 use lib.IntN.{ℤ, pos}
 use lib.Signed.{_≤ℤ_}
-use Rattle.values.specs.Outcomes.{Res, ok, err, _>>=_, _>>_, Row, missing, present}
-use Rattle.values.specs.laws.OutcomeLaws.{ok-inj, present-inj, ok-not-err, missing-not-present, passing, failing, passed, gone}
+use Rattle.values.specs.Outcomes.{Res, ok, _>>=_, _>>_, Row, missing, present}
+use Rattle.values.specs.laws.OutcomeLaws.{ok-inj, present-inj, ok-not-err, missing-not-present, passed, gone}
 use Rattle.values.specs.laws.IntLaws.{ints, neg}
 use Rattle.values.specs.laws.RangeLaws.{in-type, in-int, in-type-long, four}
-use Rattle.values.specs.Types.{inType}
+use Rattle.values.specs.Types.{sameType, inType}
 use Rattle.values.specs.declared.error.ErrorKind.the-variants.{NoResultType, DataInvalid, Overflow}
 use Rattle.values.specs.declared.datatypes.PrimitiveType.{PrimitiveType}
 use Rattle.values.specs.declared.datatypes.PrimitiveType.the-variants.{Int, Long, Date, Time, Timestamp, Timestamptz, TimestampNs, TimestamptzNs, String, Binary}
@@ -22,10 +23,10 @@ use Rattle.transform.specs.laws.FloorLaws.{floor-mono, floor-one, day-fits}
 use Rattle.transform.specs.Calendar.{inCalendar, yearOf, monthOf}
 use Rattle.transform.specs.laws.CalendarLaws.{yearOf-mono, monthOf-mono, yearOf-range, monthOf-range}
 use Rattle.transform.specs.Temporal.{unitOf, perDay, perHour, dayOf, hourOf}
-use Rattle.transform.specs.Truncate.{truncated, widest}
+use Rattle.transform.specs.Truncate.{truncated}
 use Rattle.transform.specs.laws.TruncateLaws.{truncated-mono}
-use Rattle.partition.specs.ResultType.{truncates, truncateType, resultType}
-use Rattle.partition.specs.Partition.{truncateNumber, byCalendar, outsideCalendar, dayNumber, hourNumber, byTransform, transformNumber}
+use Rattle.partition.specs.ResultType.{isOneOf, forTypes, truncatable, withDays, withHours, resultType}
+use Rattle.partition.specs.Partition.{widestIntWidth, truncateNumber, byCalendar, outsideCalendar, dayNumber, hourNumber, transformNumber, known}
 use Rattle.transform.specs.declared.temporal.TimeUnit.{TimeUnit}
 use Rattle.transform.specs.declared.temporal.TimeUnit.the-variants as time-unit
 
@@ -34,31 +35,30 @@ use Rattle.transform.specs.declared.temporal.TimeUnit.the-variants as time-unit
 pub value-is : {x p : ℤ} → ok (present x) ≡ ok (present p) → x ≡ p
 value-is e = present-inj (ok-inj e)
 
+pub record Truncates (ty : PrimitiveType) (v : ℤ) (width : ℕ) (r : Row ℤ) : Type 0 where
+  pub inside : inType ty (truncated width v) ≡ true
+  pub value : present (truncated width v) ≡ r
+
+truncates-by : (ty : PrimitiveType) (v : ℤ) (width : ℕ) {r : Row ℤ} → truncateNumber ty width v ≡ ok r → Truncates ty v width r
+truncates-by ty v width e =
+    let a = passed (not (sameType ty Int) || leb width widestIntWidth) DataInvalid _ e in
+    let b = passed (ltb 0 width) Overflow _ (a .1) in
+    let c = passed (inType ty (truncated width v)) Overflow _ (b .1) in
+    record { inside = c .0; value = ok-inj (c .1) }
+
+pub record Counts (ty : PrimitiveType) (v : ℤ) (count : ℤ → ℤ) (r : Row ℤ) : Type 0 where
+  pub day : ℤ
+  pub day-is : dayOf ty v ≡ ok day
+  pub inside : inCalendar day ≡ true
+  pub value : present (count day) ≡ r
+
+counts-by : (ty : PrimitiveType) (v : ℤ) (count : ℤ → ℤ) {r : Row ℤ} → byCalendar count ty v ≡ ok r → Counts ty v count r
+counts-by ty v count e =
+    let a = gone (dayOf ty v) _ e in
+    let b = passed (inCalendar (a .0)) (outsideCalendar (unitOf ty)) _ (a .2) in
+    record { day = a .0; day-is = a .1; inside = b .0; value = ok-inj (b .1) }
+
 module _ (ty : PrimitiveType) (v p : ℤ) where
-  pub record Truncates (width : ℕ) : Type 0 where
-    pub inside : inType ty (truncated width v) ≡ true
-    pub value : truncated width v ≡ p
-
-  truncates-by : (width : ℕ) → truncateNumber ty width v ≡ ok (present p) → Truncates width
-  truncates-by width e =
-      let a = gone (widest ty) _ e in
-      let b = passed (leb width (a .0)) DataInvalid _ (a .2) in
-      let c = passed (ltb 0 width) Overflow _ (b .1) in
-      let d = passed (inType ty (truncated width v)) Overflow _ (c .1) in
-      record { inside = d .0; value = value-is (d .1) }
-
-  pub record Counts (count : ℤ → ℤ) : Type 0 where
-    pub day : ℤ
-    pub day-is : dayOf ty v ≡ ok day
-    pub inside : inCalendar day ≡ true
-    pub value : count day ≡ p
-
-  counts-by : (count : ℤ → ℤ) → byCalendar count ty v ≡ ok (present p) → Counts count
-  counts-by count e =
-      let a = gone (dayOf ty v) _ e in
-      let b = passed (inCalendar (a .0)) (outsideCalendar (unitOf ty)) _ (a .2) in
-      record { day = a .0; day-is = a .1; inside = b .0; value = value-is (b .1) }
-
   day-by : dayNumber ty v ≡ ok (present p) → dayOf ty v ≡ ok p
   day-by e = let a = gone (dayOf ty v) _ e in a .1 ∙ ap ok (value-is (a .2))
 
@@ -107,14 +107,15 @@ module _ (ty : PrimitiveType) (v w d e : ℤ) where
 module _ (ty : PrimitiveType) (v w p q : ℤ) where
   calendar-mono : (count : ℤ → ℤ) → ((d e : ℤ) → d ≤ℤ e → count d ≤ℤ count e) → byCalendar count ty v ≡ ok (present p) → byCalendar count ty w ≡ ok (present q) → v ≤ℤ w → p ≤ℤ q
   calendar-mono count mono a b h =
-      let x = counts-by ty v p count a in
-      let y = counts-by ty w q count b in
-      rw (← x .value, ← y .value) (mono (x .day) (y .day) (day-mono ty v w (x .day) (y .day) (x .day-is) (y .day-is) h))
+      let x = counts-by ty v count a in
+      let y = counts-by ty w count b in
+      rw (← present-inj (x .value), ← present-inj (y .value)) (mono (x .day) (y .day) (day-mono ty v w (x .day) (y .day) (x .day-is) (y .day-is) h))
 
-  by-mono : (tr : Transform) → byTransform ty tr v ≡ ok (present p) → byTransform ty tr w ≡ ok (present q) → v ≤ℤ w → p ≤ℤ q
+  by-mono : (tr : Transform) → transformNumber ty tr v ≡ ok (present p) → transformNumber ty tr w ≡ ok (present q) → v ≤ℤ w → p ≤ℤ q
+  unfolding transformNumber
   by-mono Identity a b h = rw (← value-is a, ← value-is b) h
   by-mono (Truncate width) a b h =
-      rw (← truncates-by ty v p width a .value, ← truncates-by ty w q width b .value) (truncated-mono width h)
+      rw (← present-inj (truncates-by ty v width a .value), ← present-inj (truncates-by ty w width b .value)) (truncated-mono width h)
   by-mono Year a b h = calendar-mono yearOf yearOf-mono a b h
   by-mono Month a b h = calendar-mono monthOf monthOf-mono a b h
   by-mono Day a b h = day-mono ty v w p q (day-by ty v p a) (day-by ty w q b) h
@@ -122,23 +123,8 @@ module _ (ty : PrimitiveType) (v w p q : ℤ) where
   by-mono Void a b h = missing-not-present (ok-inj a)
   by-mono Unknown a b h = ok-not-err a
 
-module _ (ty : PrimitiveType) (tr : Transform) (v : ℤ) {r : Row ℤ} (e : transformNumber ty tr v ≡ ok r) where
-  -- only numbers of the column's type have a value
-  pub number-starts : inType ty v ≡ true
-  unfolding transformNumber
-  number-starts = passed (inType ty v) Overflow _ e .0
-
-  by : byTransform ty tr v ≡ ok r
-  unfolding transformNumber
-  by = passed (inType ty v) Overflow _ e .1
-
--- and every other number is 8
-pub number-outside : (ty : PrimitiveType) (tr : Transform) (v : ℤ) → inType ty v ≡ false → transformNumber ty tr v ≡ err Overflow
-unfolding transformNumber
-number-outside ty tr v h = failing Overflow (byTransform ty tr v) h
-
 pub number-mono : (ty : PrimitiveType) (tr : Transform) (v w : ℤ) {p q : ℤ} → transformNumber ty tr v ≡ ok (present p) → transformNumber ty tr w ≡ ok (present q) → v ≤ℤ w → p ≤ℤ q
-number-mono ty tr v w {p} {q} a b h = by-mono ty v w p q tr (by ty tr v a) (by ty tr w b) h
+number-mono ty tr v w {p} {q} a b h = by-mono ty v w p q tr a b h
 
 -- ---- numbers: the value is of the result type
 
@@ -170,68 +156,54 @@ day-lands ty v d h e = go (unitOf ty) refl (quotient v (perDay (unitOf ty)) e)
     go time-unit.Nanosecond a g = let n = ok-inj (rw a at (g .1)) in moment (g .0) (omega (arith, n)) (g .2)
     go time-unit.Neither a g = ok-not-err (rw a at (g .1))
 
-truncate-lands : (ty to : PrimitiveType) (z : ℤ) → truncateType ty ≡ ok to → inType ty z ≡ true → inType to z ≡ true
-truncate-lands ty to z e h = let a = passed (truncates ty) NoResultType _ e in subst (λ (t : PrimitiveType). inType t z ≡ true) (ok-inj (a .1)) h
+-- a listed type's result type
+pub listed-to : (types : List PrimitiveType) (ty t : PrimitiveType) {to : PrimitiveType} → forTypes types ty t ≡ ok to → t ≡ to
+listed-to types ty t e = ok-inj (passed (isOneOf ty types) NoResultType _ e .1)
 
--- a type that counts days or hours
-counted-to : (r : Res ℕ) (t : PrimitiveType) {to : PrimitiveType} → (r >>= λ units. ok t) ≡ ok to → t ≡ to
-counted-to r t e = ok-inj (gone r (λ units. ok t) e .2)
-
-by-lands : (ty to : PrimitiveType) (tr : Transform) (v p : ℤ) → resultType tr ty ≡ ok to → inType ty v ≡ true → byTransform ty tr v ≡ ok (present p) → inType to p ≡ true
-unfolding resultType
-by-lands ty to Identity v p r h e = rw (← ok-inj r, ← value-is e) h
-by-lands ty to (Truncate width) v p r h e =
-    let x = truncates-by ty v p width e in
-    rw (← x .value) (truncate-lands ty to (truncated width v) r (x .inside))
-by-lands ty to Year v p r h e =
-    let x = counts-by ty v p yearOf e in
+pub number-lands : (ty to : PrimitiveType) (tr : Transform) (v p : ℤ) → resultType tr ty ≡ ok to → inType ty v ≡ true → transformNumber ty tr v ≡ ok (present p)
+    → inType to p ≡ true
+unfolding resultType transformNumber
+number-lands ty to Identity v p r h e = rw (← ok-inj r, ← value-is e) h
+number-lands ty to (Truncate width) v p r h e = let x = truncates-by ty v width e in rw (← listed-to truncatable ty ty r, ← present-inj (x .value)) (x .inside)
+number-lands ty to Year v p r h e =
+    let x = counts-by ty v yearOf e in
     let k = yearOf-range (x .day) (x .inside) in
-    rw (← counted-to (perDay (unitOf ty)) Int r, ← x .value) (in-int (yearOf (x .day)) .1 (omega (ints, k .0, k .1, neg (pos 264113))))
-by-lands ty to Month v p r h e =
-    let x = counts-by ty v p monthOf e in
+    rw (← listed-to withDays ty Int r, ← present-inj (x .value)) (in-int (yearOf (x .day)) .1 (omega (ints, k .0, k .1, neg (pos 264113))))
+number-lands ty to Month v p r h e =
+    let x = counts-by ty v monthOf e in
     let k = monthOf-range (x .day) (x .inside) in
-    rw (← counted-to (perDay (unitOf ty)) Int r, ← x .value) (in-int (monthOf (x .day)) .1 (omega (ints, k .0, k .1, neg (pos 3169356))))
-by-lands ty to Day v p r h e = rw (← counted-to (perDay (unitOf ty)) Date r) (day-lands ty v p h (day-by ty v p e))
-by-lands ty to Hour v p r h e = rw (← counted-to (perHour (unitOf ty)) Int r) (hour-by ty v p e .1)
-by-lands ty to Void v p r h e = missing-not-present (ok-inj e)
-by-lands ty to Unknown v p r h e = ok-not-err e
+    rw (← listed-to withDays ty Int r, ← present-inj (x .value)) (in-int (monthOf (x .day)) .1 (omega (ints, k .0, k .1, neg (pos 3169356))))
+number-lands ty to Day v p r h e = rw (← listed-to withDays ty Date r) (day-lands ty v p h (day-by ty v p e))
+number-lands ty to Hour v p r h e = rw (← listed-to withHours ty Int r) (hour-by ty v p e .1)
+number-lands ty to Void v p r h e = missing-not-present (ok-inj e)
+number-lands ty to Unknown v p r h e = ok-not-err e
 
--- only a String has values that are Strings
-pub string-result : (tr : Transform) (ty : PrimitiveType) → resultType tr ty ≡ ok String → ty ≡ String
+-- only a String has values that are Strings, of the known transforms
+pub string-result : (tr : Transform) (ty : PrimitiveType) → known tr ≡ true → resultType tr ty ≡ ok String → ty ≡ String
 unfolding resultType
-string-result Identity ty r = ok-inj r
-string-result (Truncate width) ty r = ok-inj (passed (truncates ty) NoResultType _ r .1)
-string-result Year ty r = absurd (true≢false (cc (counted-to (perDay (unitOf ty)) Int r)))
-string-result Month ty r = absurd (true≢false (cc (counted-to (perDay (unitOf ty)) Int r)))
-string-result Day ty r = absurd (true≢false (cc (counted-to (perDay (unitOf ty)) Date r)))
-string-result Hour ty r = absurd (true≢false (cc (counted-to (perHour (unitOf ty)) Int r)))
-string-result Void ty r = ok-inj r
-string-result Unknown ty r = ok-inj r
-
-module _ (ty to : PrimitiveType) (tr : Transform) (v p : ℤ) (r : resultType tr ty ≡ ok to) (e : transformNumber ty tr v ≡ ok (present p)) where
-  pub number-lands : inType to p ≡ true
-  number-lands = by-lands ty to tr v p r (number-starts ty tr v e) (by ty tr v e)
+string-result Identity ty k r = ok-inj r
+string-result (Truncate width) ty k r = listed-to truncatable ty ty r
+string-result Year ty k r = absurd (true≢false (cc (listed-to withDays ty Int r)))
+string-result Month ty k r = absurd (true≢false (cc (listed-to withDays ty Int r)))
+string-result Day ty k r = absurd (true≢false (cc (listed-to withDays ty Date r)))
+string-result Hour ty k r = absurd (true≢false (cc (listed-to withHours ty Int r)))
+string-result Void ty k r = ok-inj r
+string-result Unknown ty k r = absurd (true≢false (cc))
 
 -- ---- numbers: Identity and Void
 
-pub number-identity : (ty : PrimitiveType) (v : ℤ) → inType ty v ≡ true → transformNumber ty Identity v ≡ ok (present v)
+pub number-identity : (ty : PrimitiveType) (v : ℤ) → transformNumber ty Identity v ≡ ok (present v)
 unfolding transformNumber
-number-identity ty v h = passing Overflow (ok (present v)) h
+number-identity ty v = refl
 
 -- every other known transform gives a number or a refusal
-by-missing : (ty : PrimitiveType) (tr : Transform) (v : ℤ) → byTransform ty tr v ≡ ok missing → tr ≡ Void
-by-missing ty Identity v e = missing-not-present (ok-inj (sym e))
-by-missing ty (Truncate width) v e =
-    let a = gone (widest ty) _ e in
-    let b = passed (leb width (a .0)) DataInvalid _ (a .2) in
-    let c = passed (ltb 0 width) Overflow _ (b .1) in
-    missing-not-present (ok-inj (sym (passed (inType ty (truncated width v)) Overflow _ (c .1) .1)))
-by-missing ty Year v e = let a = gone (dayOf ty v) _ e in missing-not-present (ok-inj (sym (passed (inCalendar (a .0)) (outsideCalendar (unitOf ty)) _ (a .2) .1)))
-by-missing ty Month v e = let a = gone (dayOf ty v) _ e in missing-not-present (ok-inj (sym (passed (inCalendar (a .0)) (outsideCalendar (unitOf ty)) _ (a .2) .1)))
-by-missing ty Day v e = let a = gone (dayOf ty v) _ e in missing-not-present (ok-inj (sym (a .2)))
-by-missing ty Hour v e = let a = gone (hourOf ty v) _ e in missing-not-present (ok-inj (sym (passed (inType Int (a .0)) Overflow _ (a .2) .1)))
-by-missing ty Void v e = refl
-by-missing ty Unknown v e = ok-not-err e
-
 pub number-missing : (ty : PrimitiveType) (tr : Transform) (v : ℤ) → transformNumber ty tr v ≡ ok missing → tr ≡ Void
-number-missing ty tr v e = by-missing ty tr v (by ty tr v e)
+unfolding transformNumber
+number-missing ty Identity v e = missing-not-present (ok-inj (sym e))
+number-missing ty (Truncate width) v e = missing-not-present (sym (truncates-by ty v width e .value))
+number-missing ty Year v e = missing-not-present (sym (counts-by ty v yearOf e .value))
+number-missing ty Month v e = missing-not-present (sym (counts-by ty v monthOf e .value))
+number-missing ty Day v e = let a = gone (dayOf ty v) _ e in missing-not-present (ok-inj (sym (a .2)))
+number-missing ty Hour v e = let a = gone (hourOf ty v) _ e in missing-not-present (ok-inj (sym (passed (inType Int (a .0)) Overflow _ (a .2) .1)))
+number-missing ty Void v e = refl
+number-missing ty Unknown v e = ok-not-err e

@@ -2,7 +2,7 @@
 use Prim.Native.Nat.{ℕ}
 use mathlib.Core.Bool.{true}
 use mathlib.Core.List.{List}
-use mathlib.Core.Logic.{_⊎_, inl, ⊎-elim}
+use mathlib.Core.Logic.{⊎-elim}
 use mathlib.Core.Path.{_≡_, sym, ap, _∙_}
 use lib.IntN.{ℤ}
 use lib.Signed.{_≤ℤ_}
@@ -16,15 +16,16 @@ use Rattle.values.specs.declared.datatypes.PrimitiveType.{PrimitiveType}
 use Rattle.values.specs.declared.datatypes.PrimitiveType.the-variants.{String}
 use Rattle.values.specs.declared.transform.Transform.{Transform}
 use Rattle.values.specs.declared.transform.Transform.the-variants.{Identity, Truncate}
-use Rattle.partition.specs.Partition.{ofRow, transformNumber, transformBytes, numberPartition, bytesPartition}
+use Rattle.partition.specs.Partition.{ofRow, transformNumber, transformBytes, bytesPartition}
+use Rattle.partition.specs.code.PartitionAnswers.{InType}
 use Rattle.partition.specs.laws.BytesPartitionLaws.{bytes-present, bytes-missing, bytes-identity, string-truncates}
-use Rattle.partition.specs.laws.PartitionLaws.{number-mono, number-starts, number-identity, number-missing}
+use Rattle.partition.specs.laws.PartitionLaws.{number-mono, number-identity, number-missing}
 use Rattle.partition.specs.laws.PartitionRowLaws.{number-rows, bytes-rows}
 use Rattle.transform.specs.Truncate.{firstCodePoints}
-use Rattle.expr.specs.Holds.{numberTests, bytesTests, meets}
+use Rattle.expr.specs.Holds.{bytesTests, meets}
 use Rattle.expr.specs.Predicates.{Test, Predicate, unary, test, literalsIn}
 use Rattle.projection.specs.laws.ByteLaws.{follows, leads}
-use Rattle.projection.specs.laws.LeafDemand.{HeldIn, NoRowLost, StrictIsSafe, StrictExact, InclusiveExact, NumbersStrictExact, NumbersInclusiveExact, BytesNoRowLost, BytesStrictIsSafe}
+use Rattle.projection.specs.laws.LeafDemand.{HeldIn, StrictExact, InclusiveExact, NumbersStrictExact, NumbersInclusiveExact, BytesNoRowLost, BytesStrictIsSafe}
 use Rattle.projection.specs.Lifting.{lifted}
 use Rattle.projection.specs.laws.NumberLaws.{LiftedExact, AllExact, lifted-exact, strict-exact}
 use Rattle.projection.specs.laws.NumberRowLaws.{strict-rows, inclusive-rows, strict-unary, inclusive-unary, strict-itself, inclusive-itself}
@@ -53,70 +54,62 @@ module _ (column : PrimitiveType) (transform : Transform) where
   never-missing : bySteps transform ≡ true → (v : ℤ) → transformNumber column transform v ≡ ok missing → ⊥
   never-missing h v e = clash h (ap bySteps (number-missing column transform v e))
 
-  steps-strict : bySteps transform ≡ true → (leaf : Predicate ℤ)
-      → Returned (through (numberStep column transform Strict) leaf) (StrictExact (ofRow (transformNumber column transform)) leaf)
-  steps-strict h (unary o) = strict-unary (transformNumber column transform) (never-missing h) o
-  steps-strict h (test x) =
+  steps-strict : bySteps transform ≡ true → (leaf : Predicate ℤ) → AllOf (InType column) (literalsIn leaf)
+      → Returned (through (numberStep column transform Strict) leaf) (StrictExact (InType column) (ofRow (transformNumber column transform)) leaf)
+  steps-strict h (unary o) fine = strict-unary column (transformNumber column transform) (never-missing h) o
+  steps-strict h (test x) fine =
       returned-map
       test
       (numberStep column transform Strict x)
-      (AllExact (numberUnder column transform) x)
-      (StrictExact (ofRow (transformNumber column transform)) (test x))
-      (strict-rows (transformNumber column transform) (never-missing h) x)
-      (strict-exact (numberUnder column transform) under-mono x)
+      (AllExact column (numberUnder column transform) x)
+      (StrictExact (InType column) (ofRow (transformNumber column transform)) (test x))
+      (strict-rows column (transformNumber column transform) (never-missing h) x)
+      (strict-exact column (numberUnder column transform) under-mono x fine)
 
-  steps-inclusive : bySteps transform ≡ true → (leaf : Predicate ℤ)
-      → Returned (through (numberStep column transform Inclusive) leaf) (InclusiveExact (ofRow (transformNumber column transform)) leaf (lifted column transform))
-  steps-inclusive h (unary o) = inclusive-unary (transformNumber column transform) (never-missing h) (lifted column transform) o
-  steps-inclusive h (test x) =
+  steps-inclusive : bySteps transform ≡ true → (leaf : Predicate ℤ) → AllOf (InType column) (literalsIn leaf)
+      → Returned (through (numberStep column transform Inclusive) leaf)
+      (InclusiveExact (InType column) (ofRow (transformNumber column transform)) leaf (lifted column transform))
+  steps-inclusive h (unary o) fine = inclusive-unary column (transformNumber column transform) (never-missing h) (lifted column transform) o
+  steps-inclusive h (test x) fine =
       returned-map
       test
       (numberStep column transform Inclusive x)
-      (LiftedExact (numberUnder column transform) (lifted column transform) x)
-      (InclusiveExact (ofRow (transformNumber column transform)) (test x) (lifted column transform))
-      (inclusive-rows (transformNumber column transform) (never-missing h) (lifted column transform) x)
-      (lifted-exact (numberUnder column transform) under-mono (lifted column transform) x)
+      (LiftedExact column (numberUnder column transform) (lifted column transform) x)
+      (InclusiveExact (InType column) (ofRow (transformNumber column transform)) (test x) (lifted column transform))
+      (inclusive-rows column (transformNumber column transform) (never-missing h) (lifted column transform) x)
+      (lifted-exact column (numberUnder column transform) under-mono (lifted column transform) x fine)
 
   -- under Identity a row is its own partition value
   identity-row : transform ≡ Identity → (r p : Row ℤ) → ofRow (transformNumber column transform) r ≡ ok p → r ≡ p
   identity-row t r p e = same-row (transformNumber column transform) own r p e
     where
       own : (v : ℤ) (p : Row ℤ) → transformNumber column transform v ≡ ok p → present v ≡ p
-      own v p e = let k = rw t at e in ok-inj (sym (number-identity column v (number-starts column Identity v k)) ∙ k)
+      own v p e = ok-inj (sym (number-identity column v) ∙ (rw t at e))
 
-  strict-course : (leaf q : Predicate ℤ) → Course compareNumbers (numberStep column transform Strict) transform leaf q
-      → StrictExact (ofRow (transformNumber column transform)) leaf q
-  strict-course leaf q (leafItself t e) = rw e (strict-itself (ofRow (transformNumber column transform)) (identity-row t) leaf)
-  strict-course leaf q (stepped h e) = returned (through (numberStep column transform Strict) leaf) _ (steps-strict h leaf) e
+  strict-course : (leaf q : Predicate ℤ) → AllOf (InType column) (literalsIn leaf) → Course compareNumbers (numberStep column transform Strict) transform leaf q
+      → StrictExact (InType column) (ofRow (transformNumber column transform)) leaf q
+  strict-course leaf q fine (leafItself t e) = rw e (strict-itself (InType column) (ofRow (transformNumber column transform)) (identity-row t) leaf)
+  strict-course leaf q fine (stepped h e) = returned (through (numberStep column transform Strict) leaf) _ (steps-strict h leaf fine) e
 
-  inclusive-course : (leaf q : Predicate ℤ) → Course compareNumbers (numberStep column transform Inclusive) transform leaf q
-      → InclusiveExact (ofRow (transformNumber column transform)) leaf (lifted column transform) q
-  inclusive-course leaf q (leafItself t e) =
-      rw e (inclusive-itself (ofRow (transformNumber column transform)) (identity-row t) leaf (lifted column transform) (ap (lifted column) t))
-  inclusive-course leaf q (stepped h e) = returned (through (numberStep column transform Inclusive) leaf) _ (steps-inclusive h leaf) e
+  inclusive-course : (leaf q : Predicate ℤ) → AllOf (InType column) (literalsIn leaf)
+      → Course compareNumbers (numberStep column transform Inclusive) transform leaf q
+      → InclusiveExact (InType column) (ofRow (transformNumber column transform)) leaf (lifted column transform) q
+  inclusive-course leaf q fine (leafItself t e) =
+      rw e
+      (inclusive-itself (InType column) (ofRow (transformNumber column transform)) (identity-row t) leaf (lifted column transform) (ap (lifted column) t))
+  inclusive-course leaf q fine (stepped h e) = returned (through (numberStep column transform Inclusive) leaf) _ (steps-inclusive h leaf fine) e
 
 pub numbers-strict-exact : NumbersStrictExact
 unfolding projectNumbers
-numbers-strict-exact column transform leaf q e =
-    let c = course compareNumbers (numberStep column transform Strict) column transform leaf q e in
-    rw (number-rows column transform (c .0 .0) (c .0 .1)) (strict-course column transform leaf q (c .1))
+numbers-strict-exact column transform leaf q fine e =
+    let c = course compareNumbers (numberStep column transform Strict) transform leaf q e in
+    rw (number-rows column transform (c .0)) (strict-course column transform leaf q fine (c .1))
 
 pub numbers-inclusive-exact : NumbersInclusiveExact
 unfolding projectNumbers
-numbers-inclusive-exact column transform leaf q e =
-    let c = course compareNumbers (numberStep column transform Inclusive) column transform leaf q e in
-    rw (number-rows column transform (c .0 .0) (c .0 .1)) (inclusive-course column transform leaf q (c .1))
-
--- exactness is soundness too
-pub numbers-no-row-lost : (column : PrimitiveType) (transform : Transform) (leaf q : Predicate ℤ)
-    → projectNumbers Inclusive column transform leaf ≡ ok (some q)
-    → NoRowLost numberTests numberTests (λ v. Unit {0}) (numberPartition column transform) leaf q
-numbers-no-row-lost column transform leaf q e r p held h m = numbers-inclusive-exact column transform leaf q e r p h .1 (inl (r, h, m))
-
-pub numbers-strict-is-safe : (column : PrimitiveType) (transform : Transform) (leaf q : Predicate ℤ)
-    → projectNumbers Strict column transform leaf ≡ ok (some q)
-    → StrictIsSafe numberTests numberTests (λ v. Unit {0}) (numberPartition column transform) leaf q
-numbers-strict-is-safe column transform leaf q e r p held h m = numbers-strict-exact column transform leaf q e r p h .0 m r h
+numbers-inclusive-exact column transform leaf q fine e =
+    let c = course compareNumbers (numberStep column transform Inclusive) transform leaf q e in
+    rw (number-rows column transform (c .0)) (inclusive-course column transform leaf q fine (c .1))
 
 -- ---- strings and binaries, of either question
 
@@ -176,8 +169,8 @@ module _ (question : Question) (column : PrimitiveType) (transform : Transform) 
       → Sound bytesTests bytesTests (HeldIn column) question (bytesPartition column transform) leaf q
   unfolding projectBytes
   bytes-sound leaf q fine e =
-      let c = course compareBytes (bytesStep column transform question) column transform leaf q e in
-      rw (bytes-rows column transform (c .0 .0) (c .0 .1)) (bytes-course leaf q fine (c .1))
+      let c = course compareBytes (bytesStep column transform question) transform leaf q e in
+      rw (bytes-rows column transform (c .0)) (bytes-course leaf q fine (c .1))
 
 pub bytes-no-row-lost : BytesNoRowLost
 bytes-no-row-lost column transform leaf q fine e = bytes-sound Inclusive column transform leaf q fine e

@@ -12,18 +12,21 @@ use Rattle.values.specs.Ascending.{AllOf}
 use Rattle.values.specs.laws.AscendingLaws.{all-ascending, length-ascending}
 use Rattle.values.specs.laws.IntLaws.{ints}
 use Rattle.values.specs.Order.{compareNumbers, compareBytes}
-use Rattle.values.specs.Outcomes.{Res, ok, err, _>>=_}
-use Rattle.values.specs.laws.OutcomeLaws.{each-length, each-all}
+use Rattle.values.specs.Outcomes.{Res, ok, err, need, _>>=_, _>>_}
+use Rattle.values.specs.laws.OutcomeLaws.{each-length, each-all, passed}
+use Rattle.values.specs.Types.{inType}
 use Rattle.values.specs.declared.datatypes.PrimitiveType.{PrimitiveType}
+use Rattle.values.specs.declared.error.ErrorKind.the-variants.{Overflow}
 use Rattle.values.specs.declared.order.Ordering.{Ordering}
 use Rattle.values.specs.declared.transform.Transform.{Transform}
 use Rattle.values.specs.declared.transform.Transform.the-variants.{Identity}
+use Rattle.partition.specs.code.PartitionAnswers.{InType}
 use Rattle.expr.specs.Operators.{Binary, SetOperator, lessThan, lessThanOrEq, greaterThan, greaterThanOrEq, eq, notEq, startsWith, notStartsWith, isIn, notIn}
 use Rattle.expr.specs.Predicates.{Test, binary, set, Predicate, unary, test, literalsIn}
 use Rattle.projection.specs.ByteSteps.{byLength, inclusiveBytes, strictBytes}
 use Rattle.projection.specs.Lifting.{withNexts, lift}
 use Rattle.projection.specs.NumberSteps.{inclusiveNumber, strictNumber}
-use Rattle.projection.specs.Projection.{inOrder, through, projection}
+use Rattle.projection.specs.Projection.{inOrder, through, byTransform}
 use Rattle.projection.specs.laws.ProjectionLaws.{Course, leafItself, stepped, course}
 use Rattle.projection.specs.laws.StepLaws.{Returned, returned, returned-map, returned-literal, returned-each}
 use Rattle.projection.specs.Steps.{Projected, some, none, withLiteral, withEach}
@@ -78,10 +81,9 @@ module _ {A : Type 0} (compare : A → A → Ordering) (h : A → Type 0) where
         rw e (record { all = k .all; count = omega (arith, k .count, enough (length (literalsIn leaf))) })
     course-lands leaf x all (stepped t e) = returned (through step leaf) (Landed h (most (length (literalsIn leaf)))) (through-lands leaf all) e
 
-    pub lands : (column : PrimitiveType) (leaf x : Predicate A) → AllOf g (literalsIn leaf)
-        → projection compare step column transform leaf ≡ ok (some x)
+    pub lands : (leaf x : Predicate A) → AllOf g (literalsIn leaf) → byTransform compare step transform leaf ≡ ok (some x)
         → Landed h (most (length (literalsIn leaf))) x
-    lands column leaf x all e = course-lands leaf x all (course compare step column transform leaf x e .1)
+    lands leaf x all e = course-lands leaf x all (course compare step transform leaf x e .1)
 
 -- ---- numbers
 
@@ -114,34 +116,38 @@ module _ (h : ℤ → Type 0) (next : (z : ℤ) → z <ℤ pos 0 → h z → h (
   }
   lift-lands n (set notIn ts) k = record { all = k .all; count = omega (arith, k .count) }
 
-module _ (T : ℤ → Res ℤ) (g h : ℤ → Type 0) (gives : (l t : ℤ) → T l ≡ ok t → h t) where
-  number : (o : Binary) (l : ℤ) → Returned (withLiteral o (T l)) (λ q. Landed h 1 (test q))
-  number o l = one-lands compareNumbers h o (T l) (gives l)
+module _ (column : PrimitiveType) (T : ℤ → Res ℤ) (h : ℤ → Type 0) (gives : (l t : ℤ) → T l ≡ ok t → InType column l → h t) where
+  number : (o : Binary) (l : ℤ) → InType column l → Returned (withLiteral o (T l)) (λ q. Landed h 1 (test q))
+  number o l x = one-lands compareNumbers h o (T l) (λ t e. gives l t e x)
 
-  numbers : (o : SetOperator) (ls : List ℤ) → AllOf g ls → Returned (withEach compareNumbers o T ls) (λ q. Landed h (length ls) (test q))
-  numbers o ls x = each-lands compareNumbers h o T g (λ l t e k. gives l t e) ls x
+  -- L−1 or L+1
+  gated : (o : Binary) (l : ℤ) → Returned (withLiteral o (need (inType column l) Overflow >> T l)) (λ q. Landed h 1 (test q))
+  gated o l = one-lands compareNumbers h o _ (λ t e. let a = passed (inType column l) Overflow _ e in gives l t (a .1) (a .0))
 
-  pub inclusive-numbers : (y : Test ℤ) → AllOf g (literalsIn (test y))
-      → Returned (inclusiveNumber T y) (λ q. Landed h (length (literalsIn (test y))) (test q))
-  inclusive-numbers (binary lessThan l) x = number lessThanOrEq (predℤ l)
-  inclusive-numbers (binary lessThanOrEq l) x = number lessThanOrEq l
-  inclusive-numbers (binary greaterThan l) x = number greaterThanOrEq (sucℤ l)
-  inclusive-numbers (binary greaterThanOrEq l) x = number greaterThanOrEq l
-  inclusive-numbers (binary eq l) x = number eq l
+  numbers : (o : SetOperator) (ls : List ℤ) → AllOf (InType column) ls → Returned (withEach compareNumbers o T ls) (λ q. Landed h (length ls) (test q))
+  numbers o ls x = each-lands compareNumbers h o T (InType column) gives ls x
+
+  pub inclusive-numbers : (y : Test ℤ) → AllOf (InType column) (literalsIn (test y))
+      → Returned (inclusiveNumber column T y) (λ q. Landed h (length (literalsIn (test y))) (test q))
+  inclusive-numbers (binary lessThan l) x = gated lessThanOrEq (predℤ l)
+  inclusive-numbers (binary lessThanOrEq l) x = number lessThanOrEq l (x .0)
+  inclusive-numbers (binary greaterThan l) x = gated greaterThanOrEq (sucℤ l)
+  inclusive-numbers (binary greaterThanOrEq l) x = number greaterThanOrEq l (x .0)
+  inclusive-numbers (binary eq l) x = number eq l (x .0)
   inclusive-numbers (binary notEq l) x = tt
-  inclusive-numbers (binary startsWith l) x = number startsWith l
-  inclusive-numbers (binary notStartsWith l) x = number notStartsWith l
+  inclusive-numbers (binary startsWith l) x = number startsWith l (x .0)
+  inclusive-numbers (binary notStartsWith l) x = number notStartsWith l (x .0)
   inclusive-numbers (set isIn ls) x = numbers isIn ls x
   inclusive-numbers (set notIn ls) x = tt
 
-  pub strict-numbers : (y : Test ℤ) → AllOf g (literalsIn (test y))
-      → Returned (strictNumber T y) (λ q. Landed h (length (literalsIn (test y))) (test q))
-  strict-numbers (binary lessThan l) x = number lessThan l
-  strict-numbers (binary lessThanOrEq l) x = number lessThan (sucℤ l)
-  strict-numbers (binary greaterThan l) x = number greaterThan l
-  strict-numbers (binary greaterThanOrEq l) x = number greaterThan (predℤ l)
+  pub strict-numbers : (y : Test ℤ) → AllOf (InType column) (literalsIn (test y))
+      → Returned (strictNumber column T y) (λ q. Landed h (length (literalsIn (test y))) (test q))
+  strict-numbers (binary lessThan l) x = number lessThan l (x .0)
+  strict-numbers (binary lessThanOrEq l) x = gated lessThan (sucℤ l)
+  strict-numbers (binary greaterThan l) x = number greaterThan l (x .0)
+  strict-numbers (binary greaterThanOrEq l) x = gated greaterThan (predℤ l)
   strict-numbers (binary eq l) x = tt
-  strict-numbers (binary notEq l) x = number notEq l
+  strict-numbers (binary notEq l) x = number notEq l (x .0)
   strict-numbers (binary startsWith l) x = tt
   strict-numbers (binary notStartsWith l) x = tt
   strict-numbers (set isIn ls) x = tt

@@ -1,26 +1,32 @@
--- The steps for numbers are exact, under any partial map that keeps the order: one argument for all transforms of numbers. Assumes nothing.
+-- The steps for numbers are exact, over the numbers of a column's type, under any partial map that keeps the order: one argument for all transforms of
+-- numbers. Assumes nothing.
 use mathlib.Core.Bool.{Bool, true, false}
 use mathlib.Core.List.{[], _∷_, List·Memᴰ as Isin, List·Memᴰ·eq-of-singleton as eq-of-singleton}
 use mathlib.Core.Logic.{_⊎_, inl, inr, ⊎-elim, _↔_}
 use mathlib.Core.Path.{_≡_, refl, sym, ap, _∙_}
 use lib.IntN.{ℤ, sucℤ, predℤ, suc-pred}
 use lib.Signed.{_≤ℤ_}
-use Rattle.values.specs.Ascending.{ascending}
+use Rattle.values.specs.Ascending.{AllOf, ascending}
+use Rattle.values.specs.laws.AscendingLaws.{all-isin}
 use Rattle.values.specs.laws.IntLaws.{ints, le-or-lt, ≤ℤ-antisym}
 use Rattle.values.specs.Order.{compareNumbers}
 use Rattle.values.specs.Outcomes.{Res, ok, err, _>>=_}
-use Rattle.values.specs.laws.OutcomeLaws.{ok-inj}
+use Rattle.values.specs.laws.OutcomeLaws.{ok-inj, passed}
 use Rattle.values.specs.laws.RangeLaws.{next}
 use Rattle.values.specs.laws.TestLaws.{stable, refuted, clash}
+use Rattle.values.specs.Types.{inType}
+use Rattle.values.specs.declared.datatypes.PrimitiveType.{PrimitiveType}
+use Rattle.values.specs.declared.error.ErrorKind.the-variants.{Overflow}
+use Rattle.partition.specs.code.PartitionAnswers.{InType}
 use Rattle.expr.specs.Holds.{numberTests, meets}
 use Rattle.expr.specs.laws.HoldsLaws.{opposite, meets-false, opposite-true}
 use Rattle.expr.specs.Operators.{lessThan, lessThanOrEq, greaterThan, greaterThanOrEq, eq, notEq, startsWith, notStartsWith, isIn, notIn}
 use Rattle.expr.specs.Predicates.{Test, binary, set, test, literalsIn}
 use Rattle.projection.specs.Lifting.{lift}
 use Rattle.projection.specs.laws.LiftingLaws.{is-below, is-at-most, is-same, is-member, is-ascending-member, Above, lift-keeps, Rises, at-most-rises, at-least-rises, equal-rises, within-rises, lift-back}
-use Rattle.projection.specs.NumberSteps.{inclusiveNumber, strictNumber}
+use Rattle.projection.specs.NumberSteps.{oneBelow, oneAbove, inclusiveNumber, strictNumber}
 use Rattle.projection.specs.Projection.{liftedBy}
-use Rattle.projection.specs.laws.StepLaws.{Returned, returned-map, returned-literal, returned-each, opposite-literal, opposite-each, each-into, each-from}
+use Rattle.projection.specs.laws.StepLaws.{Returned, returned-map, returned-literal, returned-each, opposite-literal, opposite-each, each-into, Literal, each-from}
 use Rattle.projection.specs.Steps.{Projected, some, none, mapped}
 
 -- ---- < L is ≤ L−1, and > L is ≥ L+1
@@ -47,27 +53,30 @@ returned-lifted false (err e) g h k x = tt
 
 -- ---- inclusive
 
--- T(v) is the partition value of the number v
-module _ (T : ℤ → Res ℤ) where
+module _ (column : PrimitiveType) (T : ℤ → Res ℤ) where
+  -- p is the partition value of v, a number of the column's type
+  abbrev pub Has : ℤ → ℤ → Type 0
+  Has v p = InType column v × (T v ≡ ok p)
+
   abbrev pub SomeNumber : Test ℤ → ℤ → Type 0
-  SomeNumber x p = (v : ℤ) × (T v ≡ ok p) × (meets numberTests x v ≡ true)
+  SomeNumber x p = (v : ℤ) × Has v p × (meets numberTests x v ≡ true)
 
   abbrev pub AllNumbers : Test ℤ → ℤ → Type 0
-  AllNumbers x p = (v : ℤ) → T v ≡ ok p → meets numberTests x v ≡ true
+  AllNumbers x p = (v : ℤ) → Has v p → meets numberTests x v ≡ true
 
   -- q accepts a partition value exactly where some number of it meets x. What lifting asks besides: q rises, and its literals are partition values
   pub record Exact (x q : Test ℤ) : Type 0 where
-    pub kept : (v p : ℤ) → T v ≡ ok p → meets numberTests x v ≡ true → meets numberTests q p ≡ true
-    pub needed : (v p : ℤ) → T v ≡ ok p → meets numberTests q p ≡ true → SomeNumber x p
+    pub kept : (v p : ℤ) → Has v p → meets numberTests x v ≡ true → meets numberTests q p ≡ true
+    pub needed : (v p : ℤ) → Has v p → meets numberTests q p ≡ true → SomeNumber x p
     pub rises : Rises q
-    pub literals : (t : ℤ) → Isin t (literalsIn (test q)) → (v : ℤ) × (T v ≡ ok t)
+    pub literals : (t : ℤ) → Isin t (literalsIn (test q)) → (v : ℤ) × Has v t
 
   -- what is to be shown of the numbers of a partition value: of an inclusive test, lifted or not, and of a strict one
   abbrev pub LiftedExact : Bool → Test ℤ → Test ℤ → Type 0
-  LiftedExact lifts x q = (v p : ℤ) → T v ≡ ok p → (meets numberTests q p ≡ true) ↔ (SomeNumber x p ⊎ ((lifts ≡ true) × Above p (SomeNumber x)))
+  LiftedExact lifts x q = (v p : ℤ) → Has v p → (meets numberTests q p ≡ true) ↔ (SomeNumber x p ⊎ ((lifts ≡ true) × Above p (SomeNumber x)))
 
   abbrev pub AllExact : Test ℤ → Test ℤ → Type 0
-  AllExact x q = (v p : ℤ) → T v ≡ ok p → (meets numberTests q p ≡ true) ↔ AllNumbers x p
+  AllExact x q = (v p : ℤ) → Has v p → (meets numberTests q p ≡ true) ↔ AllNumbers x p
 
 -- an order of numbers: ≤, or ≥
 record Order (before : ℤ → ℤ → Type 0) : Type 0 where
@@ -91,27 +100,28 @@ downwards = record {
 
 -- x asks for the numbers before k, and q for those before T(k). Of a number v after k, T(v) is before T(k) only where they are equal: then k itself
 -- meets x
-module _ (T : ℤ → Res ℤ) (before : ℤ → ℤ → Type 0) (order : Order before) (mono : (v w p q : ℤ) → T v ≡ ok p → T w ≡ ok q → before v w → before p q)
-    (k t : ℤ) (e : T k ≡ ok t) (x q : Test ℤ) (x-is : (v : ℤ) → (meets numberTests x v ≡ true) ↔ before v k)
-    (q-is : (p : ℤ) → (meets numberTests q p ≡ true) ↔ before p t) where
-  bound : Rises q → literalsIn (test q) ≡ t ∷ [] → Exact T x q
+module _ (column : PrimitiveType) (T : ℤ → Res ℤ) (before : ℤ → ℤ → Type 0) (order : Order before)
+    (mono : (v w p q : ℤ) → T v ≡ ok p → T w ≡ ok q → before v w → before p q) (k t : ℤ) (e : Has column T k t) (x q : Test ℤ)
+    (x-is : (v : ℤ) → (meets numberTests x v ≡ true) ↔ before v k) (q-is : (p : ℤ) → (meets numberTests q p ≡ true) ↔ before p t) where
+  bound : Rises q → literalsIn (test q) ≡ t ∷ [] → Exact column T x q
   bound r one = record {
-    kept = λ v p h m. q-is p .1 (mono v k p t h e (x-is v .0 m));
+    kept = λ v p h m. q-is p .1 (mono v k p t (h .1) (e .1) (x-is v .0 m));
     needed = λ v p h m. ⊎-elim
         (λ b. (v, h, x-is v .1 b))
-        (λ b. (k, e ∙ ap ok (order .both t p (mono k v t p e h b) (q-is p .0 m)), x-is k .1 (order .self k)))
+        (λ b. (k, (e .0, e .1 ∙ ap ok (order .both t p (mono k v t p (e .1) (h .1) b) (q-is p .0 m))), x-is k .1 (order .self k)))
         (order .either v k);
     rises = r;
-    literals = λ l m. (k, e ∙ ap ok (sym (eq-of-singleton (rw one at m))));
+    literals = λ l m. (k, (e .0, e .1 ∙ ap ok (sym (eq-of-singleton (rw one at m)))));
   }
 
-module _ (T : ℤ → Res ℤ) (mono : (v w p q : ℤ) → T v ≡ ok p → T w ≡ ok q → v ≤ℤ w → p ≤ℤ q) where
-  at-most : (k t : ℤ) (x : Test ℤ) → T k ≡ ok t → ((v : ℤ) → (meets numberTests x v ≡ true) ↔ (v ≤ℤ k)) → Exact T x (binary lessThanOrEq t)
-  at-most k t x e is = bound T (λ a b. a ≤ℤ b) upwards mono k t e x (binary lessThanOrEq t) is (λ p. is-at-most p t) (at-most-rises t) refl
+module _ (column : PrimitiveType) (T : ℤ → Res ℤ) (mono : (v w p q : ℤ) → T v ≡ ok p → T w ≡ ok q → v ≤ℤ w → p ≤ℤ q) where
+  at-most : (k t : ℤ) (x : Test ℤ) → Has column T k t → ((v : ℤ) → (meets numberTests x v ≡ true) ↔ (v ≤ℤ k)) → Exact column T x (binary lessThanOrEq t)
+  at-most k t x e is = bound column T (λ a b. a ≤ℤ b) upwards mono k t e x (binary lessThanOrEq t) is (λ p. is-at-most p t) (at-most-rises t) refl
 
-  at-least : (k t : ℤ) (x : Test ℤ) → T k ≡ ok t → ((v : ℤ) → (meets numberTests x v ≡ true) ↔ (k ≤ℤ v)) → Exact T x (binary greaterThanOrEq t)
+  at-least : (k t : ℤ) (x : Test ℤ) → Has column T k t → ((v : ℤ) → (meets numberTests x v ≡ true) ↔ (k ≤ℤ v)) → Exact column T x (binary greaterThanOrEq t)
   at-least k t x e is =
       bound
+      column
       T
       (λ a b. b ≤ℤ a)
       downwards
@@ -126,48 +136,67 @@ module _ (T : ℤ → Res ℤ) (mono : (v w p q : ℤ) → T v ≡ ok p → T w 
       (at-least-rises t)
       refl
 
-  pub inclusive-exact : (x : Test ℤ) → Returned (inclusiveNumber T x) (Exact T x)
-  inclusive-exact (binary lessThan l) =
-      returned-literal lessThanOrEq (T (predℤ l)) (Exact T (binary lessThan l)) (λ t e. at-most (predℤ l) t (binary lessThan l) e (λ v. less-is v l))
-  inclusive-exact (binary lessThanOrEq l) =
-      returned-literal lessThanOrEq (T l) (Exact T (binary lessThanOrEq l)) (λ t e. at-most l t (binary lessThanOrEq l) e (λ v. is-at-most v l))
-  inclusive-exact (binary greaterThan l) =
-      returned-literal greaterThanOrEq (T (sucℤ l)) (Exact T (binary greaterThan l)) (λ t e. at-least (sucℤ l) t (binary greaterThan l) e (λ v. greater-is v l))
-  inclusive-exact (binary greaterThanOrEq l) =
-      returned-literal greaterThanOrEq (T l) (Exact T (binary greaterThanOrEq l)) (λ t e. at-least l t (binary greaterThanOrEq l) e (λ v. is-at-most l v))
-  inclusive-exact (binary eq l) =
-      returned-literal eq (T l) (Exact T (binary eq l)) (λ t e. record {
-        kept = λ v p h m. is-same p t .1 (ok-inj (sym h ∙ ap T (is-same v l .0 m) ∙ e));
-        needed = λ v p h m. (l, e ∙ ap ok (sym (is-same p t .0 m)), is-same l l .1 refl);
+  pub inclusive-exact : (x : Test ℤ) → AllOf (InType column) (literalsIn (test x)) → Returned (inclusiveNumber column T x) (Exact column T x)
+  inclusive-exact (binary lessThan l) fine =
+      returned-literal
+      lessThanOrEq
+      (oneBelow column T l)
+      (Exact column T (binary lessThan l))
+      (λ t e. at-most (predℤ l) t (binary lessThan l) (passed (inType column (predℤ l)) Overflow _ e) (λ v. less-is v l))
+  inclusive-exact (binary lessThanOrEq l) fine =
+      returned-literal
+      lessThanOrEq
+      (T l)
+      (Exact column T (binary lessThanOrEq l))
+      (λ t e. at-most l t (binary lessThanOrEq l) (fine .0, e) (λ v. is-at-most v l))
+  inclusive-exact (binary greaterThan l) fine =
+      returned-literal
+      greaterThanOrEq
+      (oneAbove column T l)
+      (Exact column T (binary greaterThan l))
+      (λ t e. at-least (sucℤ l) t (binary greaterThan l) (passed (inType column (sucℤ l)) Overflow _ e) (λ v. greater-is v l))
+  inclusive-exact (binary greaterThanOrEq l) fine =
+      returned-literal
+      greaterThanOrEq
+      (T l)
+      (Exact column T (binary greaterThanOrEq l))
+      (λ t e. at-least l t (binary greaterThanOrEq l) (fine .0, e) (λ v. is-at-most l v))
+  inclusive-exact (binary eq l) fine =
+      returned-literal eq (T l) (Exact column T (binary eq l)) (λ t e. record {
+        kept = λ v p h m. is-same p t .1 (ok-inj (sym (h .1) ∙ ap T (is-same v l .0 m) ∙ e));
+        needed = λ v p h m. (l, (fine .0, e ∙ ap ok (sym (is-same p t .0 m))), is-same l l .1 refl);
         rises = equal-rises t;
-        literals = λ k m. (l, e ∙ ap ok (sym (eq-of-singleton m)));
+        literals = λ k m. (l, (fine .0, e ∙ ap ok (sym (eq-of-singleton m))));
       })
-  inclusive-exact (binary notEq l) = tt
-  inclusive-exact (binary startsWith l) =
-      returned-literal startsWith (T l) (Exact T (binary startsWith l)) (λ t e. record {
+  inclusive-exact (binary notEq l) fine = tt
+  inclusive-exact (binary startsWith l) fine =
+      returned-literal startsWith (T l) (Exact column T (binary startsWith l)) (λ t e. record {
         kept = λ v p h m. m;
         needed = λ v p h m. clash m refl;
         rises = λ z g m. m;
-        literals = λ k m. (l, e ∙ ap ok (sym (eq-of-singleton m)));
+        literals = λ k m. (l, (fine .0, e ∙ ap ok (sym (eq-of-singleton m))));
       })
-  inclusive-exact (binary notStartsWith l) =
-      returned-literal notStartsWith (T l) (Exact T (binary notStartsWith l)) (λ t e. record {
+  inclusive-exact (binary notStartsWith l) fine =
+      returned-literal notStartsWith (T l) (Exact column T (binary notStartsWith l)) (λ t e. record {
         kept = λ v p h m. m;
         needed = λ v p h m. (v, h, m);
         rises = λ z g m. m;
-        literals = λ k m. (l, e ∙ ap ok (sym (eq-of-singleton m)));
+        literals = λ k m. (l, (fine .0, e ∙ ap ok (sym (eq-of-singleton m))));
       })
-  inclusive-exact (set isIn ls) =
-      returned-each compareNumbers isIn T ls (Exact T (set isIn ls)) (λ ts e. record {
-        kept = λ v p h m. is-ascending-member p ts .1 (each-into T ls e v p h (is-member v ls .0 m));
-        needed = λ v p h m. let l = each-from T ls e p (is-ascending-member p ts .0 m) in (l .0, l .1, is-member (l .0) ls .1 (l .2));
+  inclusive-exact (set isIn ls) fine =
+      returned-each compareNumbers isIn T ls (Exact column T (set isIn ls)) (λ ts e. record {
+        kept = λ v p h m. is-ascending-member p ts .1 (each-into T ls e v p (h .1) (is-member v ls .0 m));
+        needed = λ v p h m. let l = each-from T ls e p (is-ascending-member p ts .0 m) in (l .0, from l, is-member (l .0) ls .1 (l .2));
         rises = within-rises (ascending compareNumbers ts);
-        literals = λ t m. let l = each-from T ls e t (is-ascending-member t ts .0 (is-member t (ascending compareNumbers ts) .1 m)) in (l .0, l .1);
+        literals = λ t m. let l = each-from T ls e t (is-ascending-member t ts .0 (is-member t (ascending compareNumbers ts) .1 m)) in (l .0, from l);
       })
-  inclusive-exact (set notIn ls) = tt
+    where
+      from : {p : ℤ} (l : Literal T ls p) → Has column T (l .0) p
+      from l = (all-isin (InType column) (l .0) ls fine (l .2), l .1)
+  inclusive-exact (set notIn ls) fine = tt
 
   -- ---- lifted
-  lift-exact : (x q : Test ℤ) → Exact T x q → LiftedExact T true x (lift q)
+  lift-exact : (x q : Test ℤ) → Exact column T x q → LiftedExact column T true x (lift q)
   lift-exact x q exact v p h = (
     λ m. ⊎-elim
         (λ k. inl (exact .needed v p h k))
@@ -179,35 +208,44 @@ module _ (T : ℤ → Res ℤ) (mono : (v w p q : ℤ) → T v ≡ ok p → T w 
         o,
   )
 
-  same-exact : (x q : Test ℤ) → Exact T x q → LiftedExact T false x q
+  same-exact : (x q : Test ℤ) → Exact column T x q → LiftedExact column T false x q
   same-exact x q exact v p h = (λ m. inl (exact .needed v p h m), λ o. ⊎-elim (λ k. exact .kept (k .0) p (k .1) (k .2)) (λ a. clash (a .0) refl) o)
 
-  pub lifted-exact : (lifts : Bool) (x : Test ℤ) → Returned (inclusiveNumber T x >>= λ q. ok (liftedBy lifts q)) (LiftedExact T lifts x)
-  lifted-exact lifts x = returned-lifted lifts (inclusiveNumber T x) (Exact T x) (LiftedExact T lifts x) (go lifts) (inclusive-exact x)
+  pub lifted-exact : (lifts : Bool) (x : Test ℤ) → AllOf (InType column) (literalsIn (test x))
+      → Returned (inclusiveNumber column T x >>= λ q. ok (liftedBy lifts q)) (LiftedExact column T lifts x)
+  lifted-exact lifts x fine =
+      returned-lifted lifts (inclusiveNumber column T x) (Exact column T x) (LiftedExact column T lifts x) (go lifts) (inclusive-exact x fine)
     where
-      go : (lifts : Bool) (q : Test ℤ) → Exact T x q → LiftedExact T lifts x (liftIf lifts q)
+      go : (lifts : Bool) (q : Test ℤ) → Exact column T x q → LiftedExact column T lifts x (liftIf lifts q)
       go true q exact = lift-exact x q exact
       go false q exact = same-exact x q exact
 
   -- ---- strict: the opposite of the inclusive answer to the opposite question
-  opposite-exact : (x q : Test ℤ) → Exact T (opposite x) q → AllExact T x (opposite q)
+  opposite-exact : (x q : Test ℤ) → Exact column T (opposite x) q → AllExact column T x (opposite q)
   opposite-exact x q exact v p h = (
     λ m w k. stable _ (λ z. clash (exact .kept w p k (opposite-true numberTests x w z)) (meets-false numberTests q p m)),
     λ a. opposite-true numberTests q p (refuted _ (λ z. let s = exact .needed v p h z in clash (a (s .0) (s .1)) (meets-false numberTests x (s .0) (s .2)))),
   )
 
-  by-opposite : (x : Test ℤ) → Returned (inclusiveNumber T (opposite x) >>= λ q. ok (mapped opposite q)) (AllExact T x)
-  by-opposite x =
-      returned-map opposite (inclusiveNumber T (opposite x)) (Exact T (opposite x)) (AllExact T x) (opposite-exact x) (inclusive-exact (opposite x))
+  by-opposite : (x : Test ℤ) → AllOf (InType column) (literalsIn (test (opposite x)))
+      → Returned (inclusiveNumber column T (opposite x) >>= λ q. ok (mapped opposite q)) (AllExact column T x)
+  by-opposite x fine =
+      returned-map
+      opposite
+      (inclusiveNumber column T (opposite x))
+      (Exact column T (opposite x))
+      (AllExact column T x)
+      (opposite-exact x)
+      (inclusive-exact (opposite x) fine)
 
-  pub strict-exact : (x : Test ℤ) → Returned (strictNumber T x) (AllExact T x)
-  strict-exact (binary lessThan l) = rw (opposite-literal greaterThanOrEq (T l)) at (by-opposite (binary lessThan l))
-  strict-exact (binary lessThanOrEq l) = rw (opposite-literal greaterThanOrEq (T (sucℤ l))) at (by-opposite (binary lessThanOrEq l))
-  strict-exact (binary greaterThan l) = rw (opposite-literal lessThanOrEq (T l)) at (by-opposite (binary greaterThan l))
-  strict-exact (binary greaterThanOrEq l) = rw (opposite-literal lessThanOrEq (T (predℤ l))) at (by-opposite (binary greaterThanOrEq l))
-  strict-exact (binary eq l) = tt
-  strict-exact (binary notEq l) = rw (opposite-literal eq (T l)) at (by-opposite (binary notEq l))
-  strict-exact (binary startsWith l) = tt
-  strict-exact (binary notStartsWith l) = tt
-  strict-exact (set isIn ls) = tt
-  strict-exact (set notIn ls) = rw (opposite-each compareNumbers isIn T ls) at (by-opposite (set notIn ls))
+  pub strict-exact : (x : Test ℤ) → AllOf (InType column) (literalsIn (test x)) → Returned (strictNumber column T x) (AllExact column T x)
+  strict-exact (binary lessThan l) fine = rw (opposite-literal greaterThanOrEq (T l)) at (by-opposite (binary lessThan l) fine)
+  strict-exact (binary lessThanOrEq l) fine = rw (opposite-literal greaterThanOrEq (oneAbove column T l)) at (by-opposite (binary lessThanOrEq l) fine)
+  strict-exact (binary greaterThan l) fine = rw (opposite-literal lessThanOrEq (T l)) at (by-opposite (binary greaterThan l) fine)
+  strict-exact (binary greaterThanOrEq l) fine = rw (opposite-literal lessThanOrEq (oneBelow column T l)) at (by-opposite (binary greaterThanOrEq l) fine)
+  strict-exact (binary eq l) fine = tt
+  strict-exact (binary notEq l) fine = rw (opposite-literal eq (T l)) at (by-opposite (binary notEq l) fine)
+  strict-exact (binary startsWith l) fine = tt
+  strict-exact (binary notStartsWith l) fine = tt
+  strict-exact (set isIn ls) fine = tt
+  strict-exact (set notIn ls) fine = rw (opposite-each compareNumbers isIn T ls) at (by-opposite (set notIn ls) fine)

@@ -2,17 +2,16 @@
 use mathlib.Core.Bool.{Bool, true, false, true≢false}
 use mathlib.Core.Path.{_≡_, refl, sym}
 use Rattle.values.specs.Outcomes.{Res, ok, Row, missing, present}
-use Rattle.values.specs.laws.OutcomeLaws.{ok-inj, ok-not-err, gone}
-use Rattle.values.specs.declared.datatypes.PrimitiveType.{PrimitiveType}
+use Rattle.values.specs.laws.OutcomeLaws.{ok-inj, ok-not-err}
 use Rattle.values.specs.declared.order.Ordering.{Ordering}
 use Rattle.values.specs.declared.order.Ordering.the-variants.{Equal}
 use Rattle.values.specs.declared.transform.Transform.{Transform}
 use Rattle.values.specs.declared.transform.Transform.the-variants.{Identity, Truncate, Year, Month, Day, Hour, Void, Unknown}
-use Rattle.partition.specs.Partition.{checked}
+use Rattle.partition.specs.Partition.{known}
 use Rattle.expr.specs.Holds.{Tests, holds}
 use Rattle.expr.specs.laws.HoldsLaws.{meets-ascending}
 use Rattle.expr.specs.Predicates.{Test, binary, set, Predicate, unary, test}
-use Rattle.projection.specs.Projection.{inOrder, through, byTransform, projection}
+use Rattle.projection.specs.Projection.{inOrder, through, byTransform}
 use Rattle.projection.specs.Steps.{Projected, some, none}
 
 -- the leaf with its literals in order holds where the leaf does
@@ -45,16 +44,13 @@ module _ {A : Type 0} (compare : A → A → Ordering) (step : Test A → Res (P
     leafItself : transform ≡ Identity → q ≡ inOrder compare leaf → Course transform leaf q
     stepped : bySteps transform ≡ true → through step leaf ≡ ok (some q) → Course transform leaf q
 
-  course-of : (transform : Transform) (leaf q : Predicate A) → byTransform compare step transform leaf ≡ ok (some q) → Course transform leaf q
-  course-of Identity leaf q e = leafItself refl (some-inj (ok-inj (sym e)))
-  course-of (Truncate width) leaf q e = stepped refl e
-  course-of Year leaf q e = stepped refl e
-  course-of Month leaf q e = stepped refl e
-  course-of Day leaf q e = stepped refl e
-  course-of Hour leaf q e = stepped refl e
-  course-of Void leaf q e = no-predicate e
-  course-of Unknown leaf q e = ok-not-err e
-
-  pub course : (column : PrimitiveType) (transform : Transform) (leaf q : Predicate A) → projection compare step column transform leaf ≡ ok (some q)
-      → ((to : PrimitiveType) × (checked column transform ≡ ok to)) × Course transform leaf q
-  course column transform leaf q e = let a = gone (checked column transform) _ e in ((a .0, a .1), course-of transform leaf q (a .2))
+  pub course : (transform : Transform) (leaf q : Predicate A) → byTransform compare step transform leaf ≡ ok (some q)
+      → (known transform ≡ true) × Course transform leaf q
+  course Identity leaf q e = (refl, leafItself refl (some-inj (ok-inj (sym e))))
+  course (Truncate width) leaf q e = (refl, stepped refl e)
+  course Year leaf q e = (refl, stepped refl e)
+  course Month leaf q e = (refl, stepped refl e)
+  course Day leaf q e = (refl, stepped refl e)
+  course Hour leaf q e = (refl, stepped refl e)
+  course Void leaf q e = no-predicate e
+  course Unknown leaf q e = ok-not-err e

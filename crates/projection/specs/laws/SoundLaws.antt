@@ -8,7 +8,7 @@ use Rattle.partition.specs.Partition.{ofRow}
 use Rattle.expr.specs.Holds.{Tests, meets, holds}
 use Rattle.expr.specs.Operators.{Unary}
 use Rattle.expr.specs.Predicates.{Test, Predicate, unary, test}
-use Rattle.projection.specs.laws.LeafDemand.{RowHeld, NoRowLost, StrictIsSafe}
+use Rattle.projection.specs.laws.LeafDemand.{RowOf, NoRowLost, StrictIsSafe}
 use Rattle.projection.specs.Projection.{inOrder}
 use Rattle.projection.specs.laws.ProjectionLaws.{in-order-holds}
 use Rattle.projection.specs.laws.MissingLaws.{test-missing, unary-row}
@@ -30,7 +30,7 @@ module _ {A B : Type 0} (rows : Tests A) (parts : Tests B) (Held : A → Type 0)
   Sound Strict part leaf q = StrictIsSafe rows parts Held part leaf q
 
   sound-by : (question : Question) (part : Row A → Res (Row B)) (leaf : Predicate A) (q : Predicate B)
-      → ((r : Row A) (p : Row B) → RowHeld rows parts Held part leaf q r → part r ≡ ok p → Demanded question (holds rows leaf r) (holds parts q p))
+      → ((r : Row A) (p : Row B) → RowOf Held part r p → Demanded question (holds rows leaf r) (holds parts q p))
       → Sound question part leaf q
   sound-by Inclusive part leaf q k = k
   sound-by Strict part leaf q k = k
@@ -41,16 +41,15 @@ module _ {A B : Type 0} (rows : Tests A) (parts : Tests B) (Held : A → Type 0)
         → Sound question (ofRow value) (test x) (test q)
     tests-sound x q k = sound-by question (ofRow value) (test x) (test q) go
       where
-        go : (r : Row A) (p : Row B) → RowHeld rows parts Held (ofRow value) (test x) (test q) r → ofRow value r ≡ ok p
-            → Demanded question (holds rows (test x) r) (holds parts (test q) p)
-        go missing missing held e = demanded-same question (test-missing rows x ∙ sym (test-missing parts q))
-        go missing (present p) held e = missing-not-present (ok-inj e)
-        go (present v) missing held e = absurd (never v e)
-        go (present v) (present p) held e = k v p held e
+        go : (r : Row A) (p : Row B) → RowOf Held (ofRow value) r p → Demanded question (holds rows (test x) r) (holds parts (test q) p)
+        go missing missing e = demanded-same question (test-missing rows x ∙ sym (test-missing parts q))
+        go missing (present p) e = missing-not-present (ok-inj (e .1))
+        go (present v) missing e = absurd (never v (e .1))
+        go (present v) (present p) e = k v p (e .0) (e .1)
 
     pub unary-sound : (o : Unary) → Sound question (ofRow value) (unary o) (unary o)
     unary-sound o =
-        sound-by question (ofRow value) (unary o) (unary o) (λ r p held e. demanded-same question (unary-row value never rows parts o r p e))
+        sound-by question (ofRow value) (unary o) (unary o) (λ r p e. demanded-same question (unary-row value never rows parts o r p (e .1)))
 
 -- where each row is its own partition value
 module _ {A : Type 0} (by : Tests A) (equal : (a b : A) → by .compare a b ≡ Equal → a ≡ b) (Held : A → Type 0) (part : Row A → Res (Row A))
@@ -65,4 +64,4 @@ module _ {A : Type 0} (by : Tests A) (equal : (a b : A) → by .compare a b ≡ 
       part
       leaf
       (inOrder (by .compare) leaf)
-      (λ r p held e. demanded-same question (ap (holds by leaf) (same r p e) ∙ sym (in-order-holds by equal leaf p)))
+      (λ r p e. demanded-same question (ap (holds by leaf) (same r p (e .1)) ∙ sym (in-order-holds by equal leaf p)))

@@ -8,7 +8,7 @@ use Rattle.values.specs.laws.SignedLaws.{back, ok}
 use Rattle.values.specs.Types.{layout}
 use Rattle.sheet.specs.code.ReadAnswers.{numberAt}
 use Rattle.answers.specs.laws.OneLiteralLaws.{one-number, one-there}
-use Rattle.answers.specs.laws.NumberLeafLaws.{one-itself, itself-inside, one-projected, projected-inside}
+use Rattle.answers.specs.laws.NumberLeafLaws.{number-inside, one-itself, itself-inside, one-projected, projected-inside}
 use Rattle.answers.proofs.NumberAnswers.{seen}
 use Rattle.answers.proofs.OtherTransforms.{not-identity}
 use Rattle.answers.proofs.number.project_one.Statement.{statement}
@@ -47,6 +47,12 @@ returns c =
     (one-itself (s .pre .0) (s .pre .1 .0) (s .pre .1 .1) (w .before .before .enum-told .given .1))
     (rw (told n) at (w .put-projection .ensures))
 
+project-number-requires : tie.Need-project-number-requires
+project-number-requires c κs =
+    let n = c .before in
+    let s = n .before .before .before .before .before in
+    rw (told n) (number-inside (s .args .x .column) (s .pre .0) (now (s .args .s)) (getD (now (s .args .records)) 0 0))
+
 put-projection-requires-2 : tie.Need-put-projection-requires-2
 put-projection-requires-2 c κs =
     let p = c .before in
@@ -79,7 +85,7 @@ project-one-spec =
     put-projection-requires
     (search needs)
     returns
-    (search needs)
+    project-number-requires
     put-projection-requires-2
     (search needs)
     returns-2)

@@ -2,9 +2,10 @@
 use Prim.Native.Nat.{_≤_}
 use native.Mathlib.Numerals.{add-one}
 use native.Mathlib.Omega.{arith}
-use mathlib.Core.Path.{_≡_, sym, _∙_}
+use mathlib.Core.Path.{_≡_, sym, ap, _∙_}
 use denote.Ref.{now}
 use borrow.Author.Needs.{needs}
+use Rattle.values.specs.Types.{isBytes}
 use Rattle.sets.specs.code.Sets.{collected, Filled}
 use Rattle.answers.specs.laws.NumberSetLaws.{setAt, set-refused, set-few, set-inside, set-written}
 use Rattle.answers.proofs.number.project_set.Statement.{statement}
@@ -19,6 +20,9 @@ module _ (c : tie.After-project-set-expr) where
   filled : let a = c .before .before .before .before .before .before .args in
       Filled (setAt (a .x) (now (a .s)) (now (a .records))) (c .project-set-expr .last .1 .1 .1 .1 .1 .1 .0)
   filled = rw (← c .before .before .lifts-set .ensures) (c .project-set-expr .ensures .1)
+
+project-set-expr-requires : tie.Need-project-set-expr-requires
+project-set-expr-requires c κs = let h = ap isBytes (c .before .before .before .before .before .pre .0 .is) in search needs
 
 few : (c : tie.After-n) → c .n .given .0 .0 ≤ 128
 few c =
@@ -62,7 +66,7 @@ project-set-spec =
     tie.close
     (tie.spec
     (search needs)
-    (λ c κs. search needs)
+    project-set-expr-requires
     (search needs)
     (search needs)
     (search needs)

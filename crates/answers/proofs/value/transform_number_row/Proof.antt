@@ -6,10 +6,11 @@ use mir.Syntax.{w64}
 use mir.Val.{SFits}
 use borrow.Author.Needs.{needs}
 use Rattle.values.specs.laws.SignedLaws.{back}
-use Rattle.partition.specs.code.PartitionAnswers.{numberResult}
+use Rattle.partition.specs.code.PartitionAnswers.{numberResult, InType, OfPresent}
 use Rattle.partition.specs.Partition.{numberPartition}
 use Rattle.values.specs.Outcomes.{row}
 use Rattle.answers.specs.code.Rows.{numberRowIn}
+use Rattle.answers.specs.laws.RowAnswerLaws.{row-inside}
 use Rattle.answers.proofs.ValueAnswers.{number-length, number-lands, number-no-value, missing-number, present-number}
 use Rattle.answers.proofs.value.transform_number_row.Statement.{statement}
 use Rattle.answers.proofs.value.transform_number_row.Tie as tie
@@ -18,6 +19,15 @@ number-row-requires : tie.Need-number-row-requires
 number-row-requires c κs h =
     let start = c .before .before in
     number-length (start .args .column) _ (start .pre .0) (start .pre .1 .0 h)
+
+-- the row's number is of the column's type
+inside : (start : tie.Start)
+    → let a = start .args in
+    OfPresent (InType (a .column)) (numberRowIn (row (a .present) (now (a .content))) (length (now (a .content))))
+inside start = row-inside (start .args .column) (start .pre .0) (start .args .present) (now (start .args .content)) (start .pre .1 .0)
+
+transform-number-requires : tie.Need-transform-number-requires
+transform-number-requires c κs = rw (c .number-row .ensures) (inside (c .before .before .before))
 
 -- what the transform gave for the row
 told : (c : tie.After-transform-number)
@@ -33,7 +43,7 @@ put-number-requires c κs =
     let v = c .before .before in
     let start = v .before .before .before .before .before .before in
     let f : SFits w64 (v .t .given .0 .0) = search needs in
-    (start .pre .1 .1 .1, rw (back f) (number-lands _ _ _ _ (told (v .before .before)) (start .pre .1 .1 .0) (v .t .given .1)))
+    (start .pre .1 .1 .1, rw (back f) (number-lands _ _ _ _ (told (v .before .before)) (start .pre .1 .1 .0) (inside start) (v .t .given .1)))
 
 returns : tie.Need-returns
 returns c = number-no-value _ _ _ _ (told (c .before .before .before)) (c .before .e .given .1)
@@ -56,7 +66,7 @@ transform-number-row-spec =
     tie.close
     (tie.spec
     number-row-requires
-    (λ c κs. search needs)
+    transform-number-requires
     (search needs)
     (search needs)
     (λ c κs. search needs)

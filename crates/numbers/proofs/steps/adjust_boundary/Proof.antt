@@ -16,7 +16,7 @@ returns-8 c =
     let a = c .before .args in
     agree
     (λ p. boundary.None)
-    (λ p. inclusiveBoundary (byArity p) (a .l))
+    (λ p. inclusiveBoundary (a .column) (byArity p) (a .l))
     (but (LessThan ∷ LessThanOrEq ∷ GreaterThan ∷ GreaterThanOrEq ∷ Eq ∷ StartsWith ∷ NotStartsWith ∷ []))
     (a .operator)
     (c .match .keys8)

@@ -1,5 +1,5 @@
 -- `numbers::steps::project_binary_with_adjusted_boundary` meets its contract. Assumes nothing.
-use Rattle.numbers.proofs.StepArms.{inclusive-operator, in-one, leaves}
+use Rattle.numbers.proofs.StepArms.{inclusive-operator, inclusive-leaf}
 use borrow.Author.Needs.{needs}
 use Rattle.numbers.proofs.steps.project_binary_with_adjusted_boundary.Statement.{statement}
 use Rattle.numbers.proofs.steps.project_binary_with_adjusted_boundary.Tie as tie
@@ -9,15 +9,6 @@ project-binary-with-adjusted-boundary-spec =
     tie.close
     (tie.spec
     (search needs)
+    (search needs)
     (λ c κs. search inclusive-operator)
-    (search needs)
-    (search needs)
-    (λ c κs. search in-one)
-    (search needs)
-    (search needs)
-    (search needs)
-    (λ c. search leaves)
-    (λ c. search leaves)
-    (λ c. search leaves)
-    (λ c. search leaves)
-    (λ c. search leaves))
+    (λ c. search inclusive-leaf))

@@ -1,5 +1,6 @@
 -- `numbers::steps::project_number` meets its contract. Assumes nothing.
 use Rattle.values.specs.laws.SignedLaws.{back}
+use Rattle.partition.proofs.NumberArms.{seen-inside}
 use borrow.Author.Needs.{needs}
 use Rattle.numbers.proofs.steps.project_number.Statement.{statement}
 use Rattle.numbers.proofs.steps.project_number.Tie as tie
@@ -21,8 +22,8 @@ project-number-spec =
     tie.close
     (tie.spec
     (search needs)
+    (λ c κs. search seen-inside)
     (search needs)
-    (search needs)
-    (search needs)
+    (λ c κs. search seen-inside)
     returns
     returns-2)

@@ -16,7 +16,7 @@ returns-6 c =
     let a = c .before .args in
     agree
     (λ p. boundary.None)
-    (λ p. strictBoundary (byArity p) (a .l))
+    (λ p. strictBoundary (a .column) (byArity p) (a .l))
     (but (LessThan ∷ LessThanOrEq ∷ GreaterThan ∷ GreaterThanOrEq ∷ NotEq ∷ []))
     (a .operator)
     (c .match .keys6)

@@ -1,11 +1,10 @@
 -- `numbers::steps::try_decrement_number` meets its contract. Assumes nothing.
-use lib.IntN.{ℤ, pos, negsuc, _-ℤ_}
+use lib.IntN.{ℤ, pos, negsuc, predℤ, _-ℤ_}
 use mir.Syntax.{w64}
 use mir.Val.{SFits}
 use Rattle.values.specs.laws.IntLaws.{ints, minus, apart}
 use Rattle.values.specs.laws.SignedLaws.{lit, eq-taken, eq-left}
-use Rattle.values.specs.Types.{inType}
-use Rattle.numbers.proofs.StepArms.{one-below}
+use Rattle.numbers.proofs.StepArms.{no-neighbour, neighbour-in, neighbour-out, one-below}
 use borrow.Author.Needs.{needs}
 use Rattle.numbers.proofs.steps.try_decrement_number.Statement.{statement}
 use Rattle.numbers.proofs.steps.try_decrement_number.Tie as tie
@@ -19,15 +18,25 @@ below-fits c =
     let f = c .before .fits .v in
     omega (ints, minus v (pos 1), apart (eq-left f (lit lowest tt) (c .if1 .left)))
 
-sub-t6 : tie.Need-sub-t6
-sub-t6 c = let g = below-fits c in search needs
+sub-next : tie.Need-sub-next
+sub-next c = let g = below-fits c in search needs
 
 returns : tie.Need-returns
-unfolding inType
-returns c = rw (eq-taken (c .before .fits .v) (lit lowest tt) (c .if1 .taken))
+returns c =
+    let a = c .before .args in
+    rw (eq-taken (c .before .fits .v) (lit lowest tt) (c .if1 .taken)) (no-neighbour (a .column) (a .operator) (predℤ lowest) (λ g. omega ints))
 
 returns-2 : tie.Need-returns-2
-returns-2 c = one-below (c .before .args .operator) (c .before .fits .v) (below-fits c)
+returns-2 c =
+    let e = c .before .before in
+    let a = e .before .args in
+    neighbour-in (a .column) (a .operator) (one-below (e .before .fits .v) (below-fits e)) (c .before .holds .ensures) (c .if2 .taken)
+
+returns-3 : tie.Need-returns-3
+returns-3 c =
+    let e = c .before .before in
+    let a = e .before .args in
+    neighbour-out (a .column) (a .operator) (one-below (e .before .fits .v) (below-fits e)) (c .before .holds .ensures) (c .if2 .left)
 
 pub try-decrement-number-spec : {M : Type 1} → statement M
-try-decrement-number-spec = tie.close (tie.spec sub-t6 returns returns-2)
+try-decrement-number-spec = tie.close (tie.spec returns sub-next (search needs) returns-2 returns-3)

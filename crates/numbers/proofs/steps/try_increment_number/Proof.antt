@@ -1,11 +1,10 @@
 -- `numbers::steps::try_increment_number` meets its contract. Assumes nothing.
-use lib.IntN.{ℤ, pos, _+ℤ_}
+use lib.IntN.{ℤ, pos, sucℤ, _+ℤ_}
 use mir.Syntax.{w64}
 use mir.Val.{SFits}
 use Rattle.values.specs.laws.IntLaws.{ints, plus, apart}
 use Rattle.values.specs.laws.SignedLaws.{lit, eq-taken, eq-left}
-use Rattle.values.specs.Types.{inType}
-use Rattle.numbers.proofs.StepArms.{one-above}
+use Rattle.numbers.proofs.StepArms.{no-neighbour, neighbour-in, neighbour-out, one-above}
 use borrow.Author.Needs.{needs}
 use Rattle.numbers.proofs.steps.try_increment_number.Statement.{statement}
 use Rattle.numbers.proofs.steps.try_increment_number.Tie as tie
@@ -19,15 +18,25 @@ above-fits c =
     let f = c .before .fits .v in
     omega (ints, plus v (pos 1), apart (eq-left f (lit top tt) (c .if1 .left)))
 
-add-t6 : tie.Need-add-t6
-add-t6 c = let g = above-fits c in search needs
+add-next : tie.Need-add-next
+add-next c = let g = above-fits c in search needs
 
 returns : tie.Need-returns
-unfolding inType
-returns c = rw (eq-taken (c .before .fits .v) (lit top tt) (c .if1 .taken))
+returns c =
+    let a = c .before .args in
+    rw (eq-taken (c .before .fits .v) (lit top tt) (c .if1 .taken)) (no-neighbour (a .column) (a .operator) (sucℤ top) (λ g. omega ints))
 
 returns-2 : tie.Need-returns-2
-returns-2 c = one-above (c .before .args .operator) (c .before .fits .v) (above-fits c)
+returns-2 c =
+    let e = c .before .before in
+    let a = e .before .args in
+    neighbour-in (a .column) (a .operator) (one-above (e .before .fits .v) (above-fits e)) (c .before .holds .ensures) (c .if2 .taken)
+
+returns-3 : tie.Need-returns-3
+returns-3 c =
+    let e = c .before .before in
+    let a = e .before .args in
+    neighbour-out (a .column) (a .operator) (one-above (e .before .fits .v) (above-fits e)) (c .before .holds .ensures) (c .if2 .left)
 
 pub try-increment-number-spec : {M : Type 1} → statement M
-try-increment-number-spec = tie.close (tie.spec add-t6 returns returns-2)
+try-increment-number-spec = tie.close (tie.spec returns add-next (search needs) returns-2 returns-3)

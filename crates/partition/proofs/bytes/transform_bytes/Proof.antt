@@ -10,8 +10,6 @@ transform-bytes-spec =
     (tie.spec
     (search needs)
     (search needs)
-    (search needs)
-    (search needs)
     (λ c. search bytes-rows)
     (λ c. search bytes-rows)
     (λ c. search bytes-rows))

@@ -1,6 +1,6 @@
--- `partition::number::truncate_number` meets its contract: each arm answers for its type. Assumes nothing.
-use borrow.Author.Needs.{needs}
+-- `partition::number::truncate_number` meets its contract. Assumes nothing.
 use Rattle.partition.proofs.TruncateArms.{truncating}
+use borrow.Author.Needs.{needs}
 use Rattle.partition.proofs.number.truncate_number.Statement.{statement}
 use Rattle.partition.proofs.number.truncate_number.Tie as tie
 
@@ -14,28 +14,6 @@ truncate-number-spec =
     (search needs)
     (search needs)
     (search needs)
-    (search needs)
-    (search needs)
-    (search needs)
-    (search needs)
-    (search needs)
-    (search needs)
-    (search needs)
-    (search needs)
-    (search needs)
-    (search needs)
-    (search needs)
-    (search needs)
-    (λ c. search truncating)
-    (λ c. search truncating)
-    (λ c. search truncating)
-    (λ c. search truncating)
-    (λ c. search truncating)
-    (λ c. search truncating)
-    (λ c. search truncating)
-    (λ c. search truncating)
-    (λ c. search truncating)
-    (λ c. search truncating)
     (λ c. search truncating)
     (λ c. search truncating)
     (λ c. search truncating))

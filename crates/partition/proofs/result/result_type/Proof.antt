@@ -1,5 +1,5 @@
 -- `partition::result::result_type` meets its contract. Assumes nothing.
-use Rattle.partition.proofs.ResultArms.{result-arm}
+use Rattle.partition.proofs.ResultArms.{results}
 use Rattle.partition.specs.ResultType.{resultType}
 use borrow.Author.Needs.{needs}
 use Rattle.partition.proofs.result.result_type.Statement.{statement}
@@ -23,11 +23,16 @@ result-type-spec =
     (search needs)
     (search needs)
     (search needs)
-    (λ c. search result-arm)
-    (λ c. search result-arm)
-    (λ c. search result-arm)
-    (λ c. search result-arm)
-    (λ c. search result-arm)
-    (λ c. search result-arm)
-    (λ c. search result-arm)
-    (λ c. search result-arm))
+    (search needs)
+    (search needs)
+    (search needs)
+    (search needs)
+    (search needs)
+    (λ c. search results)
+    (λ c. search results)
+    (λ c. search results)
+    (λ c. search results)
+    (λ c. search results)
+    (λ c. search results)
+    (λ c. search results)
+    (λ c. search results))
