@@ -10,7 +10,7 @@ use Rattle.values.specs.Types.{inType}
 use Rattle.values.specs.Words.{signedBytes}
 use Rattle.transform.specs.Floor.{floorMod}
 use Rattle.transform.specs.Truncate.{truncated}
-use Rattle.partition.specs.Partition.{transformNumber, checked}
+use Rattle.partition.specs.Partition.{transformNumber}
 use Rattle.partition.specs.ResultType.{resultType}
 use Rattle.projection.specs.Projection.{projectNumbers}
 use Rattle.projection.specs.Steps.{Projected, some, none}
@@ -43,6 +43,6 @@ outputSize = 32768
 
 -- "For Int, Truncate 10, < 300"
 sample : printed (sheetOf 201 1 1 10 (signedBytes 4 (pos 300) ∷ [])) ≡ ascii "inclusive 0 202 290\nstrict 0 201 300\n"
-unfolding printed answerLine digits projectSheet sheet head transformOf content projectedLeaf resultType checked projectNumbers transformNumber inType
+unfolding printed answerLine digits projectSheet sheet head transformOf content projectedLeaf resultType projectNumbers transformNumber inType
     truncated floorMod answerSheet
 sample = refl
