@@ -1,7 +1,8 @@
 -- The kind of a column by what `is_bytes` told of it. Assumes nothing.
 use mathlib.Core.Bool.{Bool, true, false}
 use mathlib.Core.Path.{_≡_, sym, _∙_}
-use Rattle.values.specs.Types.{layout, isBytes}
+use Rattle.values.specs.Types.{layout}
+use Rattle.values.specs.code.TypeResults.{isBytes}
 use Rattle.values.specs.laws.TypesLaws.{bytes-layout, number-layout}
 use Rattle.values.specs.declared.datatypes.PrimitiveType.{PrimitiveType}
 use Rattle.answers.specs.code.Leaves.{NumberColumn, BytesColumn}

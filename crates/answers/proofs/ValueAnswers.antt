@@ -8,8 +8,9 @@ use mathlib.Core.Path.{_≡_, refl, sym, ap, _∙_}
 use lib.IntN.{ℤ}
 use lib.ListN.{length, take}
 use borrow.Table.Elements.{take-le}
-use Rattle.values.specs.Outcomes.{Res, ok, err, Row, missing, present}
-use Rattle.values.specs.Types.{layout, contentSize, isBytes, fits}
+use Rattle.values.specs.Outcomes.{Res, ok, err, Row, missing, present, row}
+use Rattle.values.specs.Types.{layout, contentSize, fits}
+use Rattle.values.specs.code.TypeResults.{isBytes}
 use Rattle.values.specs.Words.{over}
 use Rattle.values.specs.declared.datatypes.PrimitiveType.{PrimitiveType}
 use Rattle.values.specs.declared.error.ErrorKind.{ErrorKind}
@@ -29,7 +30,6 @@ use Rattle.write.specs.laws.RoundTripLaws.{length-literal}
 use Rattle.write.specs.laws.WriteLaws.{length-number}
 use Rattle.write.specs.Written.{valueRecord, literalRecord, numberBytes}
 use Rattle.answers.specs.code.Settled.{Settled}
-use Rattle.values.specs.Outcomes.{row}
 use Rattle.answers.specs.code.Leaves.{NumberColumn}
 use Rattle.answers.specs.code.Rows.{numberValue, bytesValue}
 use Rattle.answers.specs.laws.SettledLaws.{settled-refused, settled-written}

@@ -10,6 +10,7 @@ use projection::question::Question;
 use sets::number::Collected;
 use sets::number::project_set_expr;
 use sheet::literal::number_of;
+use sheet::literal::record_of;
 use values::datatypes::PrimitiveType;
 use values::transform::Transform;
 use write::answer::put_numbers;
@@ -19,7 +20,8 @@ ghost use mathlib.Core.Bool.{true};
 ghost use mathlib.Core.Path.{_≡_};
 ghost use Prim.Native.Nat.{_≤_};
 ghost use lib.ListN.{length};
-ghost use Rattle.expr.specs.Operators.{byArity, takesOne, takesMany};
+ghost use Rattle.expr.specs.Operators.{byArity};
+ghost use Rattle.expr.specs.code.OperatorAnswers.{takesOne, takesMany};
 ghost use Rattle.numbers.specs.code.Boundaries.{numberProjected};
 ghost use Rattle.answers.specs.code.Settled.{Settled};
 ghost use Rattle.answers.specs.code.Leaves.{numberSteps, numberLeafAt, oneWritten, NumbersIn, keeps, NumberColumn, ReadyLeaf, liftsFor};
@@ -57,8 +59,7 @@ pub fn project_one(x: Leaf, s: &[u8], records: &[u16], out: &mut [u8]) -> Answer
     let column = x.column;
     let transform = x.transform;
     let to = x.to;
-    let k = records[0] as usize;
-    let l = number_of(s, k, column);
+    let l = number_of(s, record_of(records, 0), column);
     if let Transform::Identity = transform {
         return put_projection(to, NumberProjection::One(operator, l), out);
     }

@@ -17,15 +17,13 @@ use values::error::ErrorKind;
 use values::transform::Transform;
 use write::answer::put_no_literal;
 ghost use mathlib.Core.Bool.{true};
-ghost use mathlib.Core.List.{[]};
 ghost use mathlib.Core.Path.{_≡_};
 ghost use Rattle.values.specs.Outcomes.{ok};
 ghost use Rattle.partition.specs.ResultType.{resultType};
-ghost use Rattle.expr.specs.Operators.{byArity, takesNone, takesOne, takesMany};
-ghost use Rattle.sheet.specs.code.ReadAnswers.{contentsAt};
-ghost use Rattle.answers.specs.Answers.{projectedLeaf};
+ghost use Rattle.expr.specs.Operators.{byArity};
+ghost use Rattle.expr.specs.code.OperatorAnswers.{takesNone, takesOne, takesMany};
 ghost use Rattle.answers.specs.code.Settled.{Settled};
-ghost use Rattle.answers.specs.code.Leaves.{leafOf, steps, bytesLeafAt, keeps, Ready, ReadyLeaf};
+ghost use Rattle.answers.specs.code.Leaves.{projectedAt, steps, bytesLeafAt, keeps, Ready, ReadyLeaf};
 
 // IsNull, NotNull, IsNan and NotNan pass through unchanged.
 fn project_unary(x: Leaf, s: &[u8], records: &[u16], out: &mut [u8]) -> Answer
@@ -135,7 +133,7 @@ pub fn project_leaf(
     out: &mut [u8],
 ) -> Answer
     requires { ⌜ Ready (head .column) (head .operator) count (now s) (now records) (now out) ⌝ }
-    ensures { λ r. ⌜ Settled (projectedLeaf question (head .column) (head .transform) (leafOf [] (byArity (head .operator)) (contentsAt (now (s .entry)) (now (records .entry)) count))) (now (out .entry)) (now (out .exit)) r ⌝ }
+    ensures { λ r. ⌜ Settled (projectedAt question head count (now (s .entry)) (now (records .entry))) (now (out .entry)) (now (out .exit)) r ⌝ }
 {
     let operator = head.operator;
     let column = head.column;

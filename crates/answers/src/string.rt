@@ -5,6 +5,7 @@ use crate::leaf::Leaf;
 use sets::number::Collected;
 use sets::string::project_set_expr;
 use sheet::literal::content_of;
+use sheet::literal::record_of;
 use strings::steps::BytesProjection;
 use strings::steps::project_bytes;
 use values::datatypes::PrimitiveType;
@@ -16,7 +17,8 @@ ghost use mathlib.Core.Path.{_≡_};
 ghost use Prim.Native.Nat.{_≤_};
 ghost use lib.ListN.{length};
 ghost use Rattle.values.specs.Types.{contentSize};
-ghost use Rattle.expr.specs.Operators.{byArity, takesOne, takesMany};
+ghost use Rattle.expr.specs.Operators.{byArity};
+ghost use Rattle.expr.specs.code.OperatorAnswers.{takesOne, takesMany};
 ghost use Rattle.strings.specs.code.Prefixes.{bytesProjected, NoLonger, OneLiteral};
 ghost use Rattle.answers.specs.code.Settled.{Settled};
 ghost use Rattle.answers.specs.code.Leaves.{byteSteps, bytesLeafAt, oneBytesWritten, keeps, BytesColumn, ReadyLeaf};
@@ -52,8 +54,7 @@ pub fn project_one(x: Leaf, s: &[u8], records: &[u16], out: &mut [u8]) -> Answer
     let column = x.column;
     let transform = x.transform;
     let to = x.to;
-    let k = records[0] as usize;
-    let l = content_of(s, k);
+    let l = content_of(s, record_of(records, 0));
     match transform {
         Transform::Truncate(width) => {
             let p = project_bytes(question, column, width, operator, l);

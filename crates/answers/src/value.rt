@@ -24,7 +24,7 @@ ghost use mathlib.Core.Logic.{_⊎_};
 ghost use mathlib.Core.Path.{_≡_};
 ghost use Prim.Native.Nat.{_≤_};
 ghost use lib.ListN.{length};
-ghost use Rattle.values.specs.Outcomes.{ok};
+ghost use Rattle.values.specs.Outcomes.{ok, row};
 ghost use Rattle.values.specs.Types.{layout, fits, sameType};
 ghost use Rattle.values.specs.declared.datatypes.PrimitiveType.the-variants.{String};
 ghost use Rattle.partition.specs.code.PartitionAnswers.{numberRow};
@@ -32,10 +32,9 @@ ghost use Rattle.partition.specs.ResultType.{resultType};
 ghost use Rattle.sheet.specs.Records.{recordSize};
 ghost use Rattle.answers.specs.Answers.{transformedRow, asResult};
 ghost use Rattle.answers.specs.code.Settled.{Settled};
-ghost use Rattle.values.specs.Outcomes.{row};
 ghost use Rattle.sheet.specs.code.Contents.{rowUtf8};
 ghost use Rattle.answers.specs.code.Leaves.{NumberColumn, BytesColumn};
-ghost use Rattle.answers.specs.code.Rows.{numberRowIn, numberValue, bytesValue, valueAnswer};
+ghost use Rattle.answers.specs.code.Rows.{numberRowIn, numberValueIn, bytesValue, valueAnswer};
 
 // A number, or none.
 fn number_row(present: bool, content: &[u8]) -> NumberRow
@@ -61,7 +60,7 @@ fn transform_number_row(
     requires { ⌜ (present ≡ true → fits (layout column) (length (now content)) ≡ true) ⌝ }
     requires { ⌜ resultType transform column ≡ ok to ⌝ }
     requires { ⌜ recordSize ≤ length (now out) ⌝ }
-    ensures { λ r. ⌜ Settled (numberValue column transform to (numberRowIn (row present (now (content .entry))) (length (now (content .entry))))) (now (out .entry)) (now (out .exit)) r ⌝ }
+    ensures { λ r. ⌜ Settled (numberValueIn column transform to present (now (content .entry))) (now (out .entry)) (now (out .exit)) r ⌝ }
 {
     match transform_number(column, transform, number_row(present, content)) {
         NumberResult::Err(e) => Answer::Err(e),

@@ -8,7 +8,8 @@ use lib.ListN.{length}
 use Rattle.values.specs.laws.OutcomeLaws.{going}
 use Rattle.values.specs.Outcomes.{err, _>>=_}
 use Rattle.values.specs.declared.error.ErrorKind.{ErrorKind}
-use Rattle.expr.specs.Operators.{none, one, many, byArity, takes}
+use Rattle.expr.specs.Operators.{none, one, many, byArity}
+use Rattle.expr.specs.code.OperatorAnswers.{takes}
 use Rattle.expr.specs.laws.PredicateLaws.{arity-of}
 use Rattle.expr.specs.Predicates.{Predicate, unary, test, binary, set, operatorIn, literalsIn}
 use Rattle.projection.specs.declared.question.Question.{Question}

@@ -7,8 +7,7 @@ use mathlib.Core.Path.{_≡_}
 use lib.IntN.{ℤ, pos, sucℤ}
 use lib.Signed.{_<ℤ_}
 use Rattle.values.specs.Outcomes.{ok}
-use Rattle.values.specs.laws.WordLaws.{AllBytes}
-use Rattle.values.specs.Words.{signed, word}
+use Rattle.values.specs.Words.{AllBytes, signed, word}
 use Rattle.projection.specs.Lifting.{lifted}
 use Rattle.projection.specs.Steps.{some}
 use Rattle.projection.specs.declared.question.Question.{Question}

@@ -7,10 +7,11 @@ use mathlib.Core.List.{List, [], _∷_}
 use mathlib.Core.Path.{_≡_, sym, ap, subst, _∙_}
 use lib.ListN.{length}
 use borrow.Author.Tests.{leb-true, le-leb}
-use Rattle.values.specs.Ascending.{AllOf}
+use Rattle.values.specs.code.Places.{AllOf}
 use Rattle.values.specs.Outcomes.{ok, Row, missing, present}
 use Rattle.values.specs.laws.OutcomeLaws.{ok-inj, passing, passed}
-use Rattle.values.specs.Types.{bytes, isBytes, layout, typeNumber}
+use Rattle.values.specs.Types.{bytes, layout, typeNumber}
+use Rattle.values.specs.code.TypeResults.{isBytes}
 use Rattle.values.specs.laws.TypesLaws.{bytes-layout}
 use Rattle.values.specs.declared.datatypes.PrimitiveType.{PrimitiveType}
 use Rattle.values.specs.declared.datatypes.PrimitiveType.the-variants.{Int, Long, Date, Time, Timestamp, Timestamptz, TimestampNs, TimestamptzNs, String, Binary}

@@ -18,11 +18,10 @@ use Rattle.projection.specs.Steps.{Projected, some, none, mapped}
 use Rattle.projection.specs.declared.question.Question.{Question}
 use Rattle.sheet.specs.Records.{value}
 use Rattle.sheet.specs.Sheets.{head, sheet, projectLimit, holdsLimit}
-use Rattle.sheet.specs.Values.{eachLiteral, readRow}
+use Rattle.sheet.specs.Values.{eachLiteral, readRow, mapRow, mapLiterals}
 use Rattle.write.specs.Written.{valueRecord, answerSheet}
 use Rattle.api.specs.Demand3.{typeIn, transformIn, widthIn, RowOf}
 use Rattle.answers.specs.Kinds.{Kind}
-use Rattle.sheet.specs.Values.{mapRow, mapLiterals}
 use Rattle.answers.specs.Answers.{projected, transformed, transformedRow}
 use Rattle.api.specs.Routines.{transformValue}
 use Rattle.demand.proofs.ReadBackLaws.{sheetOf, ValueLaws}

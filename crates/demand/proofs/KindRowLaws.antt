@@ -6,7 +6,7 @@ use mathlib.Core.List.{List}
 use mathlib.Core.Logic.{_↔_}
 use mathlib.Core.Path.{_≡_, refl, sym, ap, ap₂, _∙_}
 use lib.ListN.{length}
-use Rattle.values.specs.laws.WordLaws.{AllBytes}
+use Rattle.values.specs.Words.{AllBytes}
 use Rattle.values.specs.Outcomes.{Res, ok, Row}
 use Rattle.values.specs.laws.OutcomeLaws.{ok-inj}
 use Rattle.values.specs.declared.datatypes.PrimitiveType.{PrimitiveType}

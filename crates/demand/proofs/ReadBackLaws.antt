@@ -6,7 +6,7 @@ use mathlib.Core.Bool.{true}
 use mathlib.Core.List.{List, [], _∷_, map}
 use mathlib.Core.Path.{_≡_, refl, sym, ap, subst, _∙_}
 use lib.ListN.{length, length-map}
-use Rattle.values.specs.Ascending.{AllOf}
+use Rattle.values.specs.code.Places.{AllOf}
 use Rattle.values.specs.Outcomes.{Res, ok, each, Row, missing, present}
 use Rattle.values.specs.laws.OutcomeLaws.{ok-inj, going, gone, each-put, each-length, each-all}
 use Rattle.values.specs.Types.{layout, fits}
@@ -22,12 +22,11 @@ use Rattle.write.specs.laws.RoundTripLaws.{value-back}
 use Rattle.sheet.specs.Records.{recordSize, value}
 use Rattle.sheet.specs.laws.SheetLaws.{Fits}
 use Rattle.sheet.specs.Sheets.{Sheet, sheet, holdsLimit}
-use Rattle.sheet.specs.Values.{eachLiteral, readRow}
+use Rattle.sheet.specs.Values.{eachLiteral, readRow, mapRow, mapLiterals}
 use Rattle.write.specs.Written.{valueRecord, answerSheet}
 use Rattle.write.specs.laws.WrittenLaws.{length-answer, answer-back}
 use Rattle.api.specs.HoldsTest.{holdsTest}
 use Rattle.meets.specs.Tested.{tested, testedSheet}
-use Rattle.sheet.specs.Values.{mapRow, mapLiterals}
 
 abbrev pub sheetOf : PrimitiveType → Transform → Predicate (List ℕ) → Sheet
 sheetOf column transform leaf = record { head = record { column = column; transform = transform }; leaf = leaf }

@@ -6,8 +6,8 @@ use lib.IntN.{ℤ}
 use lib.ListN.{length, replicate}
 use Rattle.values.specs.Outcomes.{Row, missing, present}
 use Rattle.values.specs.Types.{Layout, number, bytes, contentSize, layout}
-use Rattle.values.specs.Words.{leBytes, unsigned}
-use Rattle.values.specs.laws.WordLaws.{AllBytes, all-bytes}
+use Rattle.values.specs.Words.{leBytes, unsigned, AllBytes}
+use Rattle.values.specs.laws.WordLaws.{all-bytes}
 use Rattle.values.specs.declared.datatypes.PrimitiveType.{PrimitiveType}
 use Rattle.sheet.specs.Records.{missingMark}
 use Rattle.sheet.specs.Values.{mapRow}

@@ -1,8 +1,6 @@
--- The operators of predicates: their numbers, how many literals each takes, and their opposites. Assumes nothing.
+-- The operators of predicates: their numbers, and how many literals each takes. Assumes nothing.
 use Prim.Native.Nat.{ℕ}
-use mathlib.Core.Bool.{Bool, true, false}
 use mathlib.Core.List.{List, [], _∷_}
-use lib.Dec.{eqb}
 use Rattle.values.specs.Numbered.{Numbered, _is_}
 use Rattle.expr.specs.declared.operator.PredicateOperator.{PredicateOperator}
 use Rattle.expr.specs.declared.operator.PredicateOperator.the-variants.{IsNull, NotNull, IsNan, NotNan, LessThan, LessThanOrEq, GreaterThan, GreaterThanOrEq, Eq, NotEq, StartsWith, NotStartsWith, In, NotIn}
@@ -30,23 +28,6 @@ operatorNumber StartsWith = 207
 operatorNumber NotStartsWith = 208
 operatorNumber In = 301
 operatorNumber NotIn = 302
-
--- the Rust's `negate`
-abbrev pub negated : PredicateOperator → PredicateOperator
-negated IsNull = NotNull
-negated NotNull = IsNull
-negated IsNan = NotNan
-negated NotNan = IsNan
-negated LessThan = GreaterThanOrEq
-negated LessThanOrEq = GreaterThan
-negated GreaterThan = LessThanOrEq
-negated GreaterThanOrEq = LessThan
-negated Eq = NotEq
-negated NotEq = Eq
-negated StartsWith = NotStartsWith
-negated NotStartsWith = StartsWith
-negated In = NotIn
-negated NotIn = In
 
 -- ---- by how many literals they take: the same operators once more (In is `within`, NotIn `outside`), so that a predicate cannot have a wrong number of literals
 
@@ -80,28 +61,6 @@ byArity StartsWith = one startsWith
 byArity NotStartsWith = one notStartsWith
 byArity In = many isIn
 byArity NotIn = many notIn
-
--- an operator of the arity takes so many literals
-abbrev pub takes : Operator → ℕ → Bool
-takes (none o) n = eqb n 0
-takes (one o) n = eqb n 1
-takes (many o) n = true
-
--- the Rust's `is_unary`, `is_binary` and `is_set`
-abbrev pub takesNone : Operator → Bool
-takesNone (none o) = true
-takesNone (one o) = false
-takesNone (many o) = false
-
-abbrev pub takesOne : Operator → Bool
-takesOne (none o) = false
-takesOne (one o) = true
-takesOne (many o) = false
-
-abbrev pub takesMany : Operator → Bool
-takesMany (none o) = false
-takesMany (one o) = false
-takesMany (many o) = true
 
 abbrev pub operatorOf : Operator → PredicateOperator
 operatorOf (none isNull) = IsNull

@@ -2,8 +2,8 @@
 use values::error::ErrorKind;
 ghost use mathlib.Core.Path.{_≡_};
 ghost use Rattle.values.specs.Numbered.{find};
-ghost use Rattle.expr.specs.Operators.{operators, operatorNumber, negated, byArity, takesNone, takesMany};
-ghost use Rattle.expr.specs.code.OperatorAnswers.{operatorResult};
+ghost use Rattle.expr.specs.Operators.{operators, operatorNumber, byArity};
+ghost use Rattle.expr.specs.code.OperatorAnswers.{negated, takesNone, takesMany, operatorResult};
 
 pub enum PredicateOperator {
     // Unary operators.

@@ -12,10 +12,9 @@ use Rattle.values.specs.Types.{Layout, number}
 use Rattle.values.specs.Words.{leNumber, signed}
 use Rattle.expr.specs.Holds.{numberTests}
 use Rattle.expr.specs.Operators.{Operator}
-use Rattle.sheet.specs.code.ReadAnswers.{contentAt, numberAt}
+use Rattle.sheet.specs.code.ReadAnswers.{contentAt, numberAt, Placed}
 use Rattle.meets.specs.code.HeldAnswers.{presentHeld}
 use Rattle.sheet.specs.code.Contents.{numberIn}
-use Rattle.sheet.specs.code.ReadAnswers.{Placed}
 use Rattle.sheet.specs.laws.ReadLaws.{placed-numbers}
 
 -- what is answered of the literals by their records and of the value by its number is answered of the contents

@@ -25,7 +25,8 @@ use Rattle.partition.specs.declared.number.NumberResult.{NumberResult}
 use Rattle.partition.specs.declared.number.NumberResult.the-variants as number-result
 use Rattle.expr.proofs.OperatorArms.{position, but, agree}
 use Rattle.expr.specs.Operators as operators
-use Rattle.expr.specs.Operators.{Operator, byArity, takesOne}
+use Rattle.expr.specs.Operators.{Operator, byArity}
+use Rattle.expr.specs.code.OperatorAnswers.{takesOne}
 use Rattle.expr.specs.Predicates.{set}
 use Rattle.expr.specs.declared.operator.PredicateOperator.{PredicateOperator}
 use Rattle.expr.specs.declared.operator.PredicateOperator.the-variants.{LessThan, LessThanOrEq, GreaterThan, GreaterThanOrEq, Eq}

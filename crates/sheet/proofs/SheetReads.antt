@@ -13,7 +13,8 @@ use Rattle.values.specs.Outcomes.{Res, ok, err, _>>=_}
 use Rattle.values.specs.Types.{layout}
 use Rattle.values.specs.declared.error.ErrorKind.{ErrorKind}
 use Rattle.values.specs.declared.error.ErrorKind.the-variants.{Malformed}
-use Rattle.expr.specs.Operators.{byArity, takes}
+use Rattle.expr.specs.Operators.{byArity}
+use Rattle.expr.specs.code.OperatorAnswers.{takes}
 use Rattle.sheet.specs.code.ReadAnswers.{contentAt, malformedChain, walkedAs, Stored, headIn, headResult, sheetResult, LiteralsRead, recordsFrom}
 use Rattle.sheet.specs.Records.{recordSize, recordCount}
 use Rattle.sheet.specs.laws.SheetStepLaws.{withChain, sheet-steps, Made, predicate-made, predicate-refused}

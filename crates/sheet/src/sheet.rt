@@ -11,7 +11,8 @@ ghost use mathlib.Core.Path.{_≡_};
 ghost use Prim.Native.Nat.{_≤_};
 ghost use lib.ListN.{length};
 ghost use Rattle.values.specs.Outcomes.{ok};
-ghost use Rattle.expr.specs.Operators.{byArity, takes};
+ghost use Rattle.expr.specs.Operators.{byArity};
+ghost use Rattle.expr.specs.code.OperatorAnswers.{takes};
 ghost use Rattle.sheet.specs.Sheets as sheets;
 ghost use Rattle.sheet.specs.code.ReadAnswers.{sheetResult, LiteralsRead};
 

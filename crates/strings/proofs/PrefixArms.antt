@@ -23,7 +23,8 @@ use Rattle.partition.specs.declared.bytes.BytesResult.{BytesResult}
 use Rattle.partition.specs.declared.bytes.BytesResult.the-variants as bytes-result
 use Rattle.expr.proofs.OperatorArms.{position, agree}
 use Rattle.expr.specs.Operators as operators
-use Rattle.expr.specs.Operators.{Operator, byArity, takesOne}
+use Rattle.expr.specs.Operators.{Operator, byArity}
+use Rattle.expr.specs.code.OperatorAnswers.{takesOne}
 use Rattle.expr.specs.Predicates.{Test, binary}
 use Rattle.expr.specs.declared.operator.PredicateOperator.{PredicateOperator}
 use Rattle.expr.specs.declared.operator.PredicateOperator.the-variants.{StartsWith, NotStartsWith}

@@ -4,6 +4,7 @@ use crate::decimal::put_digits;
 use crate::hexadecimal::put_hexadecimal;
 use sheet::literal::content_of;
 use sheet::literal::number_of;
+use sheet::literal::record_of;
 use sheet::records::HOLDS_LIMIT;
 use sheet::sheet::SheetResult;
 use sheet::sheet::read_sheet;
@@ -50,9 +51,8 @@ fn put_literals(
     let mut end = at;
     let mut i = 0;
     while i < count {
-        let k = records[i] as usize;
         d[end] = b' ';
-        end = put_literal(d, end + 1, s, k, column);
+        end = put_literal(d, end + 1, s, record_of(records, i), column);
         i += 1;
     }
     end

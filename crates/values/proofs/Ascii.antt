@@ -10,8 +10,8 @@ use lib.ListN.{length, getD, drop}
 use lib.Seq.{drop-cons}
 use Rattle.values.specs.Utf8.{utf8}
 use Rattle.values.specs.laws.Utf8StepLaws.{after, first-follows}
-use Rattle.values.specs.laws.WordLaws.{AllBytes, word-step}
-use Rattle.values.specs.Words.{word}
+use Rattle.values.specs.Words.{AllBytes, word}
+use Rattle.values.specs.laws.WordLaws.{word-step}
 
 -- n bytes that have only their highest bit
 abbrev highBits : ℕ → ℕ

@@ -9,12 +9,6 @@ use lib.Signed.{ltZ}
 use Rattle.values.specs.declared.order.Ordering.{Ordering}
 use Rattle.values.specs.declared.order.Ordering.the-variants.{Less, Equal, Greater}
 
--- the answer with the two sides exchanged
-abbrev pub flip : Ordering → Ordering
-flip Less = Greater
-flip Equal = Equal
-flip Greater = Less
-
 -- 01: "numbers signed"
 unfoldable pub compareNumbers : ℤ → ℤ → Ordering
 compareNumbers a b = cond (ltZ a b) Less (cond (ltZ b a) Greater Equal)

@@ -40,10 +40,6 @@ pub data Layout : Type 0 where
   number : ℕ → Layout
   bytes : ℕ → Layout
 
-abbrev pub isBytes : Layout → Bool
-isBytes (number n) = false
-isBytes (bytes n) = true
-
 -- 01: "Int and Date have length 4, 2 and 4–8 length 8 (two's complement), 9–10 from 0 to 60"
 abbrev pub layout : PrimitiveType → Layout
 layout Int = number 4

@@ -1,12 +1,16 @@
 -- Numbers as bytes: little-endian, and in two's complement where they are signed. Assumes nothing.
-use Prim.Native.Nat.{ℕ, zero, suc, _+_, _-_, _*_, _/_, _%_, _^_}
+use Prim.Native.Nat.{ℕ, zero, suc, _+_, _-_, _*_, _/_, _%_, _^_, _<_}
 use mathlib.Core.Bool.{Bool, cond}
 use mathlib.Core.List.{List, [], _∷_, _++_}
 use mathlib.Core.Path.{_≡_, refl}
 use lib.Dec.{ltb, eqb}
-use lib.ListN.{length, take, drop}
+use lib.ListN.{length, take, drop, getD}
 use lib.IntN.{ℤ, pos, negsuc}
 use Rattle.values.specs.Types.{half}
+
+-- each member of a list is a byte; past its end `getD` gives 0, which is one
+abbrev pub AllBytes : List ℕ → Type 0
+AllBytes bs = (i : ℕ) → getD bs i 0 < 256
 
 -- 01: "All numbers in sheets are little-endian": the lowest n bytes of x, the lowest first, and the number that bytes are
 abbrev pub leBytes : ℕ → ℕ → List ℕ

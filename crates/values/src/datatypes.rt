@@ -2,8 +2,8 @@
 use crate::error::ErrorKind;
 ghost use mathlib.Core.Path.{_≡_};
 ghost use Rattle.values.specs.Numbered.{find};
-ghost use Rattle.values.specs.Types.{types, typeNumber, layout, isBytes, inRange, inType};
-ghost use Rattle.values.specs.code.TypeResults.{typeResult};
+ghost use Rattle.values.specs.Types.{types, typeNumber, layout, inRange, inType};
+ghost use Rattle.values.specs.code.TypeResults.{isBytes, typeResult};
 
 pub enum PrimitiveType {
     Int,

@@ -6,8 +6,8 @@ use mathlib.Core.Path.{_≡_, refl, sym, ap, _∙_}
 use lib.ListN.{length, getD, take, drop, set, length-drop, take-append-drop, drop-of-length-le}
 use lib.Seq.{drop-cons, drop-drop, length-take-le}
 use Rattle.values.specs.laws.FieldLaws.{word-bytes}
-use Rattle.values.specs.laws.WordLaws.{AllBytes, over-nil, over-set, length-over}
-use Rattle.values.specs.Words.{leBytes, field, word, over}
+use Rattle.values.specs.Words.{AllBytes, leBytes, field, word, over}
+use Rattle.values.specs.laws.WordLaws.{over-nil, over-set, length-over}
 use Rattle.write.specs.laws.WriteLaws.{two-writes}
 
 -- with the bytes before index i copied to `at` and on, d is one write away from what is wanted

@@ -12,7 +12,7 @@ ghost use Prim.Native.Nat.{_+_, _*_, _≤_};
 ghost use lib.Dec.{ltb};
 ghost use lib.IntN.{ℤ};
 ghost use lib.ListN.{length, take};
-ghost use Rattle.values.specs.Ascending.{AllOf};
+ghost use Rattle.values.specs.code.Places.{AllOf};
 ghost use Rattle.values.specs.Types.{contentSize, layout, inType};
 ghost use Rattle.values.specs.Words.{over};
 ghost use Rattle.sheet.specs.code.ReadAnswers.{Parts, partsAt};

@@ -13,7 +13,8 @@ use Rattle.values.specs.declared.datatypes.PrimitiveType.{PrimitiveType}
 use Rattle.values.specs.declared.transform.Transform.{Transform}
 use Rattle.values.specs.declared.transform.Transform.the-variants.{Identity, Truncate, Year, Month, Day, Hour, Void, Unknown}
 use Rattle.partition.specs.ResultType.{resultType}
-use Rattle.expr.specs.Operators.{Operator, none, one, many, isIn, notIn, byArity, takesOne, takes}
+use Rattle.expr.specs.Operators.{Operator, none, one, many, isIn, notIn, byArity}
+use Rattle.expr.specs.code.OperatorAnswers.{takesOne, takes}
 use Rattle.expr.specs.Predicates.{Test, Predicate, unary, test, binary, set}
 use Rattle.expr.specs.declared.operator.PredicateOperator.{PredicateOperator}
 use Rattle.projection.specs.Lifting.{lifted}
@@ -28,6 +29,8 @@ use Rattle.sheet.specs.Records.{recordSize}
 use Rattle.sheet.specs.Sheets.{projectLimit}
 use Rattle.write.specs.Written.{answerSheet, numberBytes, sheetBuffer}
 use Rattle.sheet.specs.Values.{byLayout, mapLiterals}
+use Rattle.sheet.specs.declared.head.Head.{Head}
+use Rattle.answers.specs.Answers.{projectedLeaf}
 use Rattle.answers.specs.declared.leaf.Leaf.{Leaf}
 
 -- of an operator that takes one literal the first counts; `other` stands for it where there is none
@@ -36,6 +39,11 @@ leafOf other (none o) ls = unary o
 leafOf other (one o) [] = test (binary o other)
 leafOf other (one o) (l ∷ ls) = test (binary o l)
 leafOf other (many o) ls = test (set o ls)
+
+-- what a sheet's leaf is answered, by its head and the records of its literals
+abbrev pub projectedAt : Question → Head → ℕ → List ℕ → List ℕ → Res (Projected (List ℕ))
+projectedAt question head count s records =
+    projectedLeaf question (head .column) (head .transform) (leafOf [] (byArity (head .operator)) (contentsAt s records count))
 
 -- ---- what the steps give, as bytes
 abbrev pub numbersWritten : PrimitiveType → Res (Projected (Predicate ℤ)) → Res (Projected (List ℕ))

@@ -1,8 +1,10 @@
 -- A row to be transformed, as the code has it: its partition value as the bytes of a record. Assumes nothing.
 use Prim.Native.Nat.{ℕ}
+use mathlib.Core.Bool.{Bool}
 use mathlib.Core.List.{List}
 use lib.IntN.{ℤ}
-use Rattle.values.specs.Outcomes.{Res, ok, _>>=_, Row}
+use lib.ListN.{length}
+use Rattle.values.specs.Outcomes.{Res, ok, _>>=_, Row, row}
 use Rattle.values.specs.Types.{layout}
 use Rattle.values.specs.Words.{leNumber, signed}
 use Rattle.values.specs.declared.datatypes.PrimitiveType.{PrimitiveType}
@@ -34,3 +36,7 @@ valueAnswer column transform v = asResult (do
 -- the number that a row's bytes are
 abbrev pub numberRowIn : Row (List ℕ) → ℕ → Row ℤ
 numberRowIn r n = mapRow (λ bs. signed n (leNumber bs)) r
+
+-- the number's partition value by a flag and a value's bytes
+abbrev pub numberValueIn : PrimitiveType → Transform → PrimitiveType → Bool → List ℕ → Res (Projected (List ℕ))
+numberValueIn column transform to present content = numberValue column transform to (numberRowIn (row present content) (length content))

@@ -8,7 +8,7 @@ use mathlib.Core.Path.{_≡_, refl, sym, ap, _∙_}
 use lib.ListN.{length, take, drop, getD, length-append, length-take}
 use lib.Seq.{take-length}
 use borrow.Author.Tests.{le-leb}
-use Rattle.values.specs.Ascending.{AllOf}
+use Rattle.values.specs.code.Places.{AllOf}
 use Rattle.values.specs.Ascending.{ascending}
 use Rattle.values.specs.Order.{compareBytes}
 use Rattle.values.specs.laws.OutcomeLaws.{passed}
@@ -21,7 +21,8 @@ use Rattle.values.specs.declared.transform.Transform.{Transform}
 use Rattle.values.specs.declared.transform.Transform.the-variants.{Identity, Truncate, Year, Month, Day, Hour, Void, Unknown}
 use Rattle.values.specs.declared.error.ErrorKind.the-variants.{NoResultType}
 use Rattle.partition.specs.ResultType.{isOneOf, forTypes, withDays, withHours, resultType}
-use Rattle.expr.specs.Operators.{operatorNumber, SetOperator, isIn, notIn, Operator, none, one, many, byArity, operatorOf, takesOne, takesMany}
+use Rattle.expr.specs.Operators.{operatorNumber, SetOperator, isIn, notIn, Operator, none, one, many, byArity, operatorOf}
+use Rattle.expr.specs.code.OperatorAnswers.{takesOne, takesMany}
 use Rattle.expr.specs.laws.PredicateLaws.{operator-of}
 use Rattle.expr.specs.Predicates.{test}
 use Rattle.expr.specs.declared.operator.PredicateOperator.{PredicateOperator}

@@ -8,7 +8,8 @@ use lib.ListN.{length, take, length-map}
 use lib.Seq.{length-take-le}
 use borrow.Author.Tests.{eqb-true}
 use Rattle.values.specs.Types.{Layout}
-use Rattle.expr.specs.Operators.{Operator, none, one, many, takes}
+use Rattle.expr.specs.Operators.{Operator, none, one, many}
+use Rattle.expr.specs.code.OperatorAnswers.{takes}
 use Rattle.expr.specs.Predicates.{literalsIn}
 use Rattle.sheet.specs.code.ReadAnswers.{contentAt, Placed, contentsAt}
 use Rattle.answers.specs.code.Leaves.{leafOf}

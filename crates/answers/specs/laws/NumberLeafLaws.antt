@@ -7,7 +7,7 @@ use mathlib.Core.Path.{_≡_, refl, sym, ap, subst, _∙_}
 use lib.IntN.{ℤ, sucℤ}
 use lib.ListN.{length, getD, length-map}
 use borrow.Author.Tests.{eq-eqb}
-use Rattle.values.specs.Ascending.{AllOf}
+use Rattle.values.specs.code.Places.{AllOf}
 use Rattle.values.specs.Order.{compareNumbers}
 use Rattle.values.specs.laws.OutcomeLaws.{ok-inj}
 use Rattle.values.specs.Outcomes.{ok, _>>=_}
@@ -20,7 +20,8 @@ use Rattle.values.specs.declared.transform.Transform.{Transform}
 use Rattle.values.specs.declared.transform.Transform.the-variants.{Identity}
 use Rattle.partition.specs.code.PartitionAnswers.{InType}
 use Rattle.partition.specs.ResultType.{resultType}
-use Rattle.expr.specs.Operators.{Binary as BinaryOperator, one, isIn, byArity, takesOne}
+use Rattle.expr.specs.Operators.{Binary as BinaryOperator, one, isIn, byArity}
+use Rattle.expr.specs.code.OperatorAnswers.{takesOne}
 use Rattle.expr.specs.Predicates.{Test, Predicate, test, binary, set, operatorIn, literalsIn}
 use Rattle.projection.specs.code.OneLiteral.{oneTest}
 use Rattle.numbers.specs.code.Boundaries.{numberLeaf, OneIn, numberProjected}

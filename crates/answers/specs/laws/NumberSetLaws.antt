@@ -6,7 +6,8 @@ use mathlib.Core.List.{List, map}
 use mathlib.Core.Path.{_≡_, refl, sym, ap, ap₂, subst, _∙_}
 use lib.IntN.{ℤ}
 use lib.ListN.{length, take}
-use Rattle.values.specs.Ascending.{AllOf, ascending}
+use Rattle.values.specs.code.Places.{AllOf}
+use Rattle.values.specs.Ascending.{ascending}
 use Rattle.values.specs.Order.{compareNumbers}
 use Rattle.values.specs.Outcomes.{Res, ok, _>>=_}
 use Rattle.values.specs.Types.{layout}
@@ -16,7 +17,8 @@ use Rattle.values.specs.declared.error.ErrorKind.{ErrorKind}
 use Rattle.values.specs.declared.transform.Transform.{Transform}
 use Rattle.values.specs.declared.transform.Transform.the-variants.{Identity, Truncate, Year, Month, Day, Hour, Void, Unknown}
 use Rattle.partition.specs.code.PartitionAnswers.{InType}
-use Rattle.expr.specs.Operators.{Operator, SetOperator, none, one, many, isIn, notIn, byArity, operatorOf, takesMany}
+use Rattle.expr.specs.Operators.{Operator, SetOperator, none, one, many, isIn, notIn, byArity, operatorOf}
+use Rattle.expr.specs.code.OperatorAnswers.{takesMany}
 use Rattle.expr.specs.laws.PredicateLaws.{operator-of}
 use Rattle.expr.specs.Predicates.{Predicate, test, set}
 use Rattle.projection.specs.Projection.{byTransform, numberStep}

@@ -8,7 +8,8 @@ use lib.ListN.{length, getD, take}
 use borrow.Author.Tests.{eqb-true}
 use Rattle.values.specs.laws.TestLaws.{clash}
 use Rattle.values.specs.Types.{layout}
-use Rattle.expr.specs.Operators.{Operator, Binary, none, one, many, byArity, takes, takesOne}
+use Rattle.expr.specs.Operators.{Operator, Binary, none, one, many, byArity}
+use Rattle.expr.specs.code.OperatorAnswers.{takes, takesOne}
 use Rattle.sheet.specs.code.ReadAnswers.{LiteralAt}
 use Rattle.answers.specs.code.Leaves.{ReadyLeaf}
 use Rattle.answers.specs.declared.leaf.Leaf.{Leaf}

@@ -6,7 +6,7 @@ use mathlib.Core.Path.{_≡_, refl, ap, _∙_}
 use lib.IntN.{ℤ}
 use lib.ListN.{length, take}
 use borrow.Author.Tests.{eqb-true}
-use Rattle.values.specs.Outcomes.{Res, ok, err, need, _>>=_, _>>_, Row, present}
+use Rattle.values.specs.Outcomes.{Res, ok, err, need, _>>=_, _>>_, Row, present, row}
 use Rattle.values.specs.laws.OutcomeLaws.{ok-inj, missing-not-present, passing, failing}
 use Rattle.values.specs.Types.{Layout, number, bytes, layout, fits, sameType}
 use Rattle.values.specs.Words.{leNumber}
@@ -24,7 +24,6 @@ use Rattle.projection.specs.Steps.{some}
 use Rattle.sheet.specs.Records.{value}
 use Rattle.write.specs.Written.{valueRecord, numberBytes}
 use Rattle.answers.specs.Answers.{transformed, transformedRow, asResult}
-use Rattle.values.specs.Outcomes.{row}
 use Rattle.sheet.specs.code.Contents.{rowUtf8}
 use Rattle.answers.specs.Kinds.{numbers, byteStrings}
 use Rattle.sheet.specs.Values.{byLayout, mapRow}

@@ -17,7 +17,8 @@ use Rattle.values.specs.declared.order.Ordering.{Ordering}
 use Rattle.values.specs.declared.transform.Transform.{Transform}
 use Rattle.values.specs.declared.transform.Transform.the-variants.{Identity, Truncate, Year, Month, Day, Hour, Void, Unknown}
 use Rattle.expr.specs.Operators as operators
-use Rattle.expr.specs.Operators.{Unary, SetOperator, isIn, notIn, Operator, one, many, byArity, operatorOf, takesNone, takesMany}
+use Rattle.expr.specs.Operators.{Unary, SetOperator, isIn, notIn, Operator, one, many, byArity, operatorOf}
+use Rattle.expr.specs.code.OperatorAnswers.{takesNone, takesMany}
 use Rattle.expr.specs.laws.PredicateLaws.{operator-of}
 use Rattle.expr.specs.Predicates.{Test, Predicate, unary, test, set}
 use Rattle.numbers.specs.laws.BoundaryLaws.{lifted-none}

@@ -1,15 +1,57 @@
 -- What each enum of the code says, as the definitions have it. Assumes nothing.
-use mathlib.Core.Bool.{Bool, false, not}
+use Prim.Native.Nat.{ℕ}
+use mathlib.Core.Bool.{Bool, true, false, not}
+use lib.Dec.{eqb}
 use Rattle.values.specs.Outcomes.{Res, ok, err}
 use Rattle.values.specs.Order.{isLess, isEqual}
-use Rattle.values.specs.Order.{flip}
+use Rattle.values.specs.code.Places.{flip}
 use Rattle.values.specs.declared.order.Ordering.{Ordering}
 use Rattle.expr.specs.Operators.{Operator, none, one, many}
 use Rattle.expr.specs.Operators as operators
 use Rattle.expr.specs.Holds.{Tests, binaryMeets}
 use Rattle.expr.specs.declared.operator.PredicateOperator.{PredicateOperator}
+use Rattle.expr.specs.declared.operator.PredicateOperator.the-variants.{IsNull, NotNull, IsNan, NotNan, LessThan, LessThanOrEq, GreaterThan, GreaterThanOrEq, Eq, NotEq, StartsWith, NotStartsWith, In, NotIn}
 use Rattle.expr.specs.declared.operator.OperatorResult.{OperatorResult}
 use Rattle.expr.specs.declared.operator.OperatorResult.the-variants as operator-result
+
+-- the Rust's `negate`
+abbrev pub negated : PredicateOperator → PredicateOperator
+negated IsNull = NotNull
+negated NotNull = IsNull
+negated IsNan = NotNan
+negated NotNan = IsNan
+negated LessThan = GreaterThanOrEq
+negated LessThanOrEq = GreaterThan
+negated GreaterThan = LessThanOrEq
+negated GreaterThanOrEq = LessThan
+negated Eq = NotEq
+negated NotEq = Eq
+negated StartsWith = NotStartsWith
+negated NotStartsWith = StartsWith
+negated In = NotIn
+negated NotIn = In
+
+-- an operator of the arity takes so many literals
+abbrev pub takes : Operator → ℕ → Bool
+takes (none o) n = eqb n 0
+takes (one o) n = eqb n 1
+takes (many o) n = true
+
+-- the Rust's `is_unary`, `is_binary` and `is_set`
+abbrev pub takesNone : Operator → Bool
+takesNone (none o) = true
+takesNone (one o) = false
+takesNone (many o) = false
+
+abbrev pub takesOne : Operator → Bool
+takesOne (none o) = false
+takesOne (one o) = true
+takesOne (many o) = false
+
+abbrev pub takesMany : Operator → Bool
+takesMany (none o) = false
+takesMany (one o) = false
+takesMany (many o) = true
 
 abbrev pub operatorResult : Res PredicateOperator → OperatorResult
 operatorResult (ok o) = operator-result.Ok o

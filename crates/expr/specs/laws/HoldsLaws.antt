@@ -8,7 +8,7 @@ use Rattle.values.specs.laws.TestLaws.{not-not}
 use Rattle.values.specs.declared.order.Ordering.the-variants.{Equal}
 use Rattle.expr.specs.Holds.{Tests, setMeets, meets}
 use Rattle.expr.specs.Operators as operators
-use Rattle.expr.specs.Operators.{negated}
+use Rattle.expr.specs.code.OperatorAnswers.{negated}
 use Rattle.expr.specs.Predicates.{Test, binary, set, test, operatorIn}
 
 -- ---- opposites

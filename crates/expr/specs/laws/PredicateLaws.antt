@@ -9,7 +9,8 @@ use Rattle.values.specs.Numbered.{find}
 use Rattle.values.specs.Outcomes.{ok}
 use Rattle.values.specs.laws.OutcomeLaws.{ok-inj, ok-not-err}
 use Rattle.values.specs.laws.TypesLaws.{found-number}
-use Rattle.expr.specs.Operators.{operators, operatorNumber, Operator, none, one, many, byArity, takes, takesNone, takesOne, takesMany, operatorOf}
+use Rattle.expr.specs.Operators.{operators, operatorNumber, Operator, none, one, many, byArity, operatorOf}
+use Rattle.expr.specs.code.OperatorAnswers.{takes, takesNone, takesOne, takesMany}
 use Rattle.expr.specs.Operators.{isNull, notNull, isNan, notNan, lessThan, lessThanOrEq, greaterThan, greaterThanOrEq, eq, notEq, startsWith, notStartsWith, isIn, notIn}
 use Rattle.expr.specs.Predicates.{Predicate, unary, test, binary, set, operatorIn, literalsIn, withLiterals, predicate}
 use Rattle.expr.specs.declared.operator.PredicateOperator.{PredicateOperator}

@@ -19,14 +19,11 @@ use Rattle.expr.specs.laws.PredicateLaws.{arity-of}
 use Rattle.expr.specs.Predicates.{Predicate, unary, test, binary, set, byArityIn, operatorIn, literalsIn}
 use Rattle.sheet.specs.laws.RefusalLaws.{Only, only-ok, only-need}
 use Rattle.sheet.specs.Sheets.{Sheet}
-use Rattle.sheet.specs.Values.{readNumber, readBytes}
-use Rattle.meets.specs.code.HeldAnswers.{held, numbersHeld, bytesHeld}
+use Rattle.sheet.specs.Values.{readNumber, readBytes, mapRow, mapLiterals, byLayout}
+use Rattle.meets.specs.code.HeldAnswers.{held, numbersHeld, bytesHeld, heldOf}
 use Rattle.sheet.specs.code.Contents.{allUtf8, rowUtf8}
-use Rattle.meets.specs.code.HeldAnswers.{heldOf}
-use Rattle.sheet.specs.Values.{mapRow, mapLiterals}
 use Rattle.sheet.specs.laws.ReadLaws.{map-operator, map-literals, number-literals, number-row, then-need, bytes-literals, bytes-row}
 use Rattle.meets.specs.Tested.{tested, testedSheet}
-use Rattle.sheet.specs.Values.{byLayout}
 
 -- ---- a predicate by its operator and its literals
 module _ {A : Type 0} (by : Tests A) where

@@ -9,7 +9,8 @@ use Rattle.values.specs.declared.datatypes.PrimitiveType.{PrimitiveType}
 use Rattle.values.specs.declared.error.ErrorKind.the-variants.{Overflow}
 use Rattle.values.specs.declared.transform.Transform.{Transform}
 use Rattle.expr.specs.Operators as operators
-use Rattle.expr.specs.Operators.{Operator, byArity, takesOne}
+use Rattle.expr.specs.Operators.{Operator, byArity}
+use Rattle.expr.specs.code.OperatorAnswers.{takesOne}
 use Rattle.expr.specs.Predicates.{Test, binary, set}
 use Rattle.expr.specs.declared.operator.PredicateOperator.{PredicateOperator}
 use Rattle.expr.specs.declared.operator.PredicateOperator.the-variants.{LessThan, LessThanOrEq, GreaterThan, GreaterThanOrEq, Eq, NotEq, StartsWith, NotStartsWith}

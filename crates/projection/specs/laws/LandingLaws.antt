@@ -8,7 +8,7 @@ use mathlib.Core.Path.{_≡_, refl}
 use lib.IntN.{ℤ}
 use lib.ListN.{length, take}
 use borrow.Table.Elements.{take-le}
-use Rattle.values.specs.Ascending.{AllOf}
+use Rattle.values.specs.code.Places.{AllOf}
 use Rattle.values.specs.Order.{compareNumbers, compareBytes}
 use Rattle.values.specs.Outcomes.{Res, ok, Row, missing, present}
 use Rattle.values.specs.laws.OutcomeLaws.{ok-inj, missing-not-present}

@@ -7,7 +7,7 @@ use mathlib.Core.Logic.{_⊎_, _↔_}
 use mathlib.Core.Path.{_≡_}
 use lib.IntN.{ℤ, pos, sucℤ}
 use lib.Signed.{_<ℤ_}
-use Rattle.values.specs.Ascending.{AllOf}
+use Rattle.values.specs.code.Places.{AllOf}
 use Rattle.values.specs.Outcomes.{Res, ok, Row, present}
 use Rattle.values.specs.Types.{sameType}
 use Rattle.values.specs.Utf8.{utf8}

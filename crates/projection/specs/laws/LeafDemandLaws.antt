@@ -6,7 +6,7 @@ use mathlib.Core.Logic.{⊎-elim}
 use mathlib.Core.Path.{_≡_, sym, ap, _∙_}
 use lib.IntN.{ℤ}
 use lib.Signed.{_≤ℤ_}
-use Rattle.values.specs.Ascending.{AllOf}
+use Rattle.values.specs.code.Places.{AllOf}
 use Rattle.values.specs.Outcomes.{ok, Row, missing, present}
 use Rattle.values.specs.laws.OutcomeLaws.{ok-inj, present-inj}
 use Rattle.values.specs.Order.{compareNumbers, compareBytes}

@@ -8,7 +8,7 @@ use lib.Dec.{eqb, ltb}
 use lib.IntN.{ℤ, pos, negsuc, sucℤ, predℤ}
 use lib.ListN.{length}
 use lib.Signed.{_<ℤ_}
-use Rattle.values.specs.Ascending.{AllOf}
+use Rattle.values.specs.code.Places.{AllOf}
 use Rattle.values.specs.laws.AscendingLaws.{all-ascending, length-ascending}
 use Rattle.values.specs.laws.IntLaws.{ints}
 use Rattle.values.specs.Order.{compareNumbers, compareBytes}

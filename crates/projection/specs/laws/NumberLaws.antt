@@ -6,7 +6,8 @@ use mathlib.Core.Logic.{_⊎_, inl, inr, ⊎-elim, _↔_}
 use mathlib.Core.Path.{_≡_, refl, sym, ap, _∙_}
 use lib.IntN.{ℤ, sucℤ, predℤ, suc-pred}
 use lib.Signed.{_≤ℤ_}
-use Rattle.values.specs.Ascending.{AllOf, ascending}
+use Rattle.values.specs.code.Places.{AllOf}
+use Rattle.values.specs.Ascending.{ascending}
 use Rattle.values.specs.laws.AscendingLaws.{all-isin}
 use Rattle.values.specs.laws.IntLaws.{ints, le-or-lt, ≤ℤ-antisym}
 use Rattle.values.specs.Order.{compareNumbers}

@@ -14,12 +14,11 @@ use Rattle.values.specs.declared.datatypes.PrimitiveType.the-variants.{String}
 use Rattle.values.specs.declared.error.ErrorKind.{ErrorKind}
 use Rattle.values.specs.declared.error.ErrorKind.the-variants.{NotUtf8}
 use Rattle.expr.specs.Predicates.{Predicate, unary, test, binary, set, operatorIn, literalsIn}
-use Rattle.sheet.specs.Values.{readNumber, readBytes, eachLiteral, readRow}
+use Rattle.sheet.specs.Values.{readNumber, readBytes, eachLiteral, readRow, mapRow, mapLiterals}
 use Rattle.sheet.specs.code.Contents.{allUtf8, rowUtf8, numberIn}
 use Rattle.sheet.specs.laws.PartLaws.{number-of-content}
 use Rattle.sheet.specs.code.ReadAnswers.{contentAt, numberAt, LiteralAt, Placed, contentsAt, numbersAt}
 use Rattle.sheet.specs.Records.{lengthIn, recordAt}
-use Rattle.sheet.specs.Values.{mapRow, mapLiterals}
 
 -- ---- reading that never refuses: numbers
 module _ {A B : Type 0} (f : A → B) where

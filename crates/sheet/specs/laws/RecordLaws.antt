@@ -11,9 +11,9 @@ use lib.Seq.{length-take-le}
 use borrow.Author.Tests.{leb-true, eqb-true, ne-eqb}
 use Rattle.values.specs.Outcomes.{ok, err, need, _>>_, Row, missing, present}
 use Rattle.values.specs.laws.OutcomeLaws.{ok-inj, failing, passed, gone}
-use Rattle.values.specs.Types.{Layout, number, contentSize, layout, isBytes, fits}
-use Rattle.values.specs.Words.{field, zeroAt}
-use Rattle.values.specs.laws.WordLaws.{AllBytes}
+use Rattle.values.specs.Types.{Layout, number, contentSize, layout, fits}
+use Rattle.values.specs.code.TypeResults.{isBytes}
+use Rattle.values.specs.Words.{field, zeroAt, AllBytes}
 use Rattle.values.specs.declared.datatypes.PrimitiveType.{PrimitiveType}
 use Rattle.values.specs.declared.datatypes.PrimitiveType.the-variants.{Int, Long, Date, Time, Timestamp, Timestamptz, TimestampNs, TimestamptzNs, String, Binary}
 use Rattle.values.specs.declared.error.ErrorKind.the-variants.{Malformed}

@@ -7,13 +7,12 @@ use mathlib.Core.Path.{_≡_, refl, subst, _∙_}
 use lib.Dec.{ltb, leb, eqb}
 use lib.ListN.{length}
 use borrow.Author.Tests.{ltb-true, leb-true, eqb-true, le-leb}
-use Rattle.values.specs.Ascending.{AllOf}
+use Rattle.values.specs.code.Places.{AllOf}
 use Rattle.values.specs.Numbered.{find}
 use Rattle.values.specs.Outcomes.{Res, ok, need, each, _>>=_, _>>_}
 use Rattle.values.specs.laws.OutcomeLaws.{ok-inj, passing, passed, gone, each-length, each-all}
 use Rattle.values.specs.Types.{layout, fits}
-use Rattle.values.specs.Words.{word, zeroAt}
-use Rattle.values.specs.laws.WordLaws.{AllBytes}
+use Rattle.values.specs.Words.{word, zeroAt, AllBytes}
 use Rattle.values.specs.declared.datatypes.PrimitiveType.{PrimitiveType}
 use Rattle.values.specs.declared.error.ErrorKind.the-variants.{Malformed}
 use Rattle.expr.specs.Operators.{operators}

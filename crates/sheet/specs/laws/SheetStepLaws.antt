@@ -13,7 +13,8 @@ use Rattle.values.specs.laws.TestLaws.{clash}
 use Rattle.values.specs.Types.{layout}
 use Rattle.values.specs.Words.{word, zeroAt}
 use Rattle.values.specs.declared.error.ErrorKind.the-variants.{Malformed}
-use Rattle.expr.specs.Operators.{Operator, none, one, many, byArity, operators, operatorOf, takes}
+use Rattle.expr.specs.Operators.{Operator, none, one, many, byArity, operators, operatorOf}
+use Rattle.expr.specs.code.OperatorAnswers.{takes}
 use Rattle.expr.specs.laws.PredicateLaws.{operator-of}
 use Rattle.expr.specs.Predicates.{Predicate, unary, test, binary, set, operatorIn, literalsIn, withLiterals, predicate}
 use Rattle.expr.specs.declared.operator.PredicateOperator.{PredicateOperator}

@@ -9,7 +9,8 @@ use Rattle.values.specs.declared.datatypes.PrimitiveType.{PrimitiveType}
 use Rattle.values.specs.declared.transform.Transform.{Transform}
 use Rattle.values.specs.declared.transform.Transform.the-variants.{Truncate}
 use Rattle.expr.specs.Operators as operators
-use Rattle.expr.specs.Operators.{Operator, byArity, takesOne}
+use Rattle.expr.specs.Operators.{Operator, byArity}
+use Rattle.expr.specs.code.OperatorAnswers.{takesOne}
 use Rattle.expr.specs.Predicates.{Test, binary}
 use Rattle.projection.specs.Projection.{bytesStep, bytesUnder, strictLength}
 use Rattle.projection.specs.ByteSteps.{byLength}

@@ -5,8 +5,8 @@ use mathlib.Core.List.{List, _∷_}
 use mathlib.Core.Path.{_≡_, refl, sym, ap, _∙_}
 use lib.ListN.{length, getD, take}
 use lib.Seq.{drop-cons, take-add}
-use Rattle.values.specs.laws.WordLaws.{AllBytes, word-step}
-use Rattle.values.specs.Words.{leBytes, field, word}
+use Rattle.values.specs.Words.{AllBytes, leBytes, field, word}
+use Rattle.values.specs.laws.WordLaws.{word-step}
 
 -- the bytes of a word are those that it was read from
 pub word-bytes : (at n : ℕ) (s : List ℕ) → AllBytes s → at + n ≤ length s → leBytes n (word at n s) ≡ field at n s

@@ -10,7 +10,8 @@ use lib.IntN.{ℤ}
 use lib.Signed.{ltZ, _<ℤ_}
 use borrow.Author.Tests.{ltb-true, ltb-false, lt-ltb, le-ltb}
 use Rattle.values.specs.laws.IntLaws.{ints, lt-true, lt-false, ltZ-yes, ltZ-not, <ℤ-trans, ≤ℤ-antisym}
-use Rattle.values.specs.Order.{flip, compareNumbers, compareBytes, isLess, isEqual}
+use Rattle.values.specs.code.Places.{flip}
+use Rattle.values.specs.Order.{compareNumbers, compareBytes, isLess, isEqual}
 use Rattle.values.specs.declared.order.Ordering.{Ordering}
 use Rattle.values.specs.declared.order.Ordering.the-variants.{Less, Equal, Greater}
 

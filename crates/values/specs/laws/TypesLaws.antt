@@ -10,7 +10,8 @@ use borrow.Author.Tests.{eqb-true, eq-eqb, ne-eqb}
 use Rattle.values.specs.Numbered.{Numbered, _is_, find}
 use Rattle.values.specs.Outcomes.{Res, ok, err, need, _>>=_, _>>_}
 use Rattle.values.specs.Transforms.{transforms, widthOf, transformOf}
-use Rattle.values.specs.Types.{types, typeNumber, contentSize, Layout, number, bytes, isBytes, layout}
+use Rattle.values.specs.Types.{types, typeNumber, contentSize, Layout, number, bytes, layout}
+use Rattle.values.specs.code.TypeResults.{isBytes}
 use Rattle.values.specs.declared.datatypes.PrimitiveType.{PrimitiveType}
 use Rattle.values.specs.declared.datatypes.PrimitiveType.the-variants.{Int, Long, Date, Time, Timestamp, Timestamptz, TimestampNs, TimestamptzNs, String, Binary}
 use Rattle.values.specs.declared.error.ErrorKind.the-variants.{Malformed}

@@ -17,7 +17,7 @@ use mir.Val.{toZ, ofZ, sel, bits, hbits}
 use borrow.Author.Tests.{ltb-true, ltb-false, lt-ltb, le-ltb}
 use Rattle.values.specs.laws.RangeLaws.{Wide, in-range-mag}
 use Rattle.values.specs.Types.{half, inRange}
-use Rattle.values.specs.Words.{leBytes, leNumber, field, word, over, signed, unsigned, signedBytes}
+use Rattle.values.specs.Words.{AllBytes, leBytes, leNumber, field, word, over, signed, unsigned, signedBytes}
 
 -- ---- n bytes of a number, and the number of bytes
 pub number-bytes : (n x : ℕ) → x < 256 ^ n → leNumber (leBytes n x) ≡ x
@@ -27,10 +27,6 @@ number-bytes (suc n) x h = let e : leNumber (leBytes n (x / 256)) ≡ x / 256 = 
 pub length-bytes : (n x : ℕ) → length (leBytes n x) ≡ n
 length-bytes zero x = refl
 length-bytes (suc n) x = ap suc (length-bytes n (x / 256))
-
--- each element is a byte; past the end `getD` reads 0, which is one
-abbrev pub AllBytes : List ℕ → Type 0
-AllBytes bs = (i : ℕ) → getD bs i 0 < 256
 
 pub all-bytes : (n x : ℕ) → AllBytes (leBytes n x)
 all-bytes zero x i = omega arith

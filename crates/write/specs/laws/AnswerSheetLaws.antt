@@ -10,7 +10,7 @@ use lib.Dec.{ltb}
 use lib.ListN.{length, getD, take, drop, length-take}
 use lib.Seq.{slice, slice-cons, slice-empty}
 use borrow.Author.Tests.{lt-ltb, le-ltb}
-use Rattle.values.specs.Ascending.{AllOf}
+use Rattle.values.specs.code.Places.{AllOf}
 use Rattle.values.specs.Types.{contentSize, typeNumber}
 use Rattle.values.specs.laws.WordLaws.{over-nil}
 use Rattle.values.specs.Words.{over}

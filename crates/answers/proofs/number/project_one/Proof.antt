@@ -1,5 +1,4 @@
 -- `number::project_one` meets its contract: under Identity the leaf itself is written, else what it comes to. Assumes nothing.
-use native.Mathlib.Omega.{arith}
 use mathlib.Core.Path.{_≡_, _∙_}
 use lib.ListN.{getD}
 use denote.Ref.{now}
@@ -14,23 +13,17 @@ use Rattle.answers.proofs.OtherTransforms.{not-identity}
 use Rattle.answers.proofs.number.project_one.Statement.{statement}
 use Rattle.answers.proofs.number.project_one.Tie as tie
 
-shared-slice-read-k : tie.Need-shared-slice-read-k
-shared-slice-read-k c =
-    let s = c .before .before .before .before in
-    let h = one-number (s .pre .1 .0) (s .pre .1 .1) in
-    search needs
-
-cast-k : tie.Need-cast-k
-cast-k c = omega (arith, c .shared-slice-known3 .given 0)
+record-of-requires : tie.Need-record-of-requires
+record-of-requires c κs = let s = c .before .before .before in one-number (s .pre .1 .0) (s .pre .1 .1)
 
 number-of-requires : tie.Need-number-of-requires
-number-of-requires c κs = let s = c .before .before .before .before in one-there (s .pre .1 .0) (s .pre .1 .1) .there
+number-of-requires c κs = let s = c .before .before .before .before in rw (c .record-of .ensures) (one-there (s .pre .1 .0) (s .pre .1 .1) .there)
 
 -- the literal that was read
 told : (c : tie.After-number-of)
     → let a = c .before .before .before .before .before .args in
     seen (c .number-of .result) ≡ numberAt (layout (a .x .column)) (now (a .s)) (getD (now (a .records)) 0 0)
-told c = back (ok _ (c .number-of .ok)) ∙ c .number-of .ensures .0
+told c = back (ok _ (c .number-of .ok)) ∙ c .number-of .ensures .0 ∙ rw (c .before .record-of .ensures)
 
 put-projection-requires : tie.Need-put-projection-requires
 put-projection-requires c κs =
@@ -78,8 +71,7 @@ pub project-one-spec : {M : Type 1} → statement M
 project-one-spec =
     tie.close
     (tie.spec
-    shared-slice-read-k
-    cast-k
+    record-of-requires
     number-of-requires
     (search needs)
     put-projection-requires

@@ -5,7 +5,7 @@ use native.Mathlib.Omega.{arith}
 use mathlib.Core.Path.{_≡_, sym, ap, _∙_}
 use denote.Ref.{now}
 use borrow.Author.Needs.{needs}
-use Rattle.values.specs.Types.{isBytes}
+use Rattle.values.specs.code.TypeResults.{isBytes}
 use Rattle.sets.specs.code.Sets.{collected, Filled}
 use Rattle.answers.specs.laws.NumberSetLaws.{setAt, set-refused, set-few, set-inside, set-written}
 use Rattle.answers.proofs.number.project_set.Statement.{statement}

@@ -3,7 +3,8 @@ use mathlib.Core.Bool.{true, false}
 use mathlib.Core.Path.{_≡_, refl}
 use borrow.Author.Needs.{needs}
 use Rattle.values.specs.laws.TestLaws.{called-no, called-yes}
-use Rattle.values.specs.Types.{layout, isBytes}
+use Rattle.values.specs.Types.{layout}
+use Rattle.values.specs.code.TypeResults.{isBytes}
 use Rattle.values.specs.laws.TypesLaws.{bytes-layout, number-layout}
 use Rattle.values.specs.declared.datatypes.PrimitiveType.{PrimitiveType}
 use Rattle.values.specs.declared.datatypes.PrimitiveType.the-variants.{String}

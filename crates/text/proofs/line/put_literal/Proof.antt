@@ -9,7 +9,8 @@ use denote.Ref.{now}
 use borrow.Author.Needs.{needs}
 use borrow.Author.Tests.{eqb-true}
 use Rattle.values.specs.laws.SignedLaws.{back, ok}
-use Rattle.values.specs.Types.{Layout, number, bytes, layout, isBytes}
+use Rattle.values.specs.Types.{Layout, number, bytes, layout}
+use Rattle.values.specs.code.TypeResults.{isBytes}
 use Rattle.sheet.specs.laws.PartLaws.{number-of-content}
 use Rattle.sheet.specs.code.ReadAnswers.{LiteralAt, contentAt, numberAt}
 use Rattle.text.specs.Text.{decimal, hexadecimal, literalText}

@@ -54,7 +54,8 @@ module _ (c : tie.In-loop Inv-loop μ-loop) where
 put-literal-requires : tie.Need-put-literal-requires Inv-loop μ-loop
 put-literal-requires c κs =
     let in-loop = c .before .before in
-    let l = in-loop .before in (
+    let l = in-loop .before in
+    rw (c .record-of .ensures) (
       l .before .before .before .before .pre .0 .each (l .loop .i) (in-loop .loop-test .taken),
       simp length-set (omega (arith, room in-loop)),
     )
@@ -67,7 +68,7 @@ loop-again c =
     let blank = one (l .loop .end) space (l .loop .d) (omega (arith, room in-loop)) in (
       omega arith,
       go-on (l .before .before .before .before .pre .1) (literal in-loop) (others in-loop) (left in-loop)
-          (then (omega (arith, room in-loop)) blank (wrote (p .put-literal .ensures))),
+          (then (omega (arith, room in-loop)) blank (wrote (rw (p .before .record-of .ensures) at (p .put-literal .ensures)))),
     )
 
 returns : tie.Need-returns Inv-loop μ-loop
@@ -85,11 +86,9 @@ put-literals-spec =
     Inv-loop
     μ-loop
     (λ c. (omega arith, start _ _ _))
-    (search needs)
-    (search needs)
-    (λ c. omega (arith, c .shared-slice-known3 .given (c .before .before .loop .i)))
-    (λ c. omega (arith, room (c .before)))
-    (λ c. omega (arith, room (c .before .before), c .before .before .before .loop .inv .1 .size))
+    (λ c. omega (arith, room c))
+    (λ c. omega (arith, room (c .before), c .before .before .loop .inv .1 .size))
+    (λ c κs. search needs)
     put-literal-requires
     (search needs)
     (search needs)

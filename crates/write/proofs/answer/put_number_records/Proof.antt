@@ -12,7 +12,7 @@ use mir.Syntax.{w64}
 use mir.Val.{toZ, ofZ}
 use denote.Ref.{now}
 use borrow.Author.Needs.{needs}
-use Rattle.values.specs.Ascending.{AllOf}
+use Rattle.values.specs.code.Places.{AllOf}
 use Rattle.values.specs.laws.SignedLaws.{back}
 use Rattle.values.specs.laws.RangeLaws.{in-type-long}
 use Rattle.values.specs.Types.{layout, inType}

@@ -7,8 +7,7 @@ use mathlib.Core.Path.{refl}
 use lib.ListN.{length, drop, length-set}
 use denote.Ref.{now}
 use borrow.Author.Needs.{needs}
-use Rattle.values.specs.laws.WordLaws.{AllBytes}
-use Rattle.values.specs.Words.{over}
+use Rattle.values.specs.Words.{AllBytes, over}
 use Rattle.write.proofs.Copies.{Copied, word-copied, byte-copied, all-copied}
 use Rattle.write.proofs.write.put_few_bytes.Statement.{statement}
 use Rattle.write.proofs.write.put_few_bytes.Tie as tie

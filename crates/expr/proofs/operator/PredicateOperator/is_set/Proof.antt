@@ -3,7 +3,8 @@ use mathlib.Core.Bool.{false}
 use mathlib.Core.List.{[], _∷_}
 use mathlib.Core.Path.{refl}
 use borrow.Author.Needs.{needs}
-use Rattle.expr.specs.Operators.{byArity, takesMany}
+use Rattle.expr.specs.Operators.{byArity}
+use Rattle.expr.specs.code.OperatorAnswers.{takesMany}
 use Rattle.expr.specs.declared.operator.PredicateOperator.the-variants.{In, NotIn}
 use Rattle.expr.proofs.OperatorArms.{but, agree}
 use Rattle.expr.proofs.operator.PredicateOperator.is_set.Statement.{statement}
