@@ -57,9 +57,9 @@ fn try_decrement_number(column: PrimitiveType, operator: PredicateOperator, v: i
     if v == -9223372036854775808 {
         return Boundary::Err(ErrorKind::Overflow);
     }
-    let next = v - 1;
-    if column.holds(next) {
-        Boundary::At(operator, next)
+    let previous = v - 1;
+    if column.holds(previous) {
+        Boundary::At(operator, previous)
     } else {
         Boundary::Err(ErrorKind::Overflow)
     }

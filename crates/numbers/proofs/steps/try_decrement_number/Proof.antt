@@ -18,8 +18,8 @@ below-fits c =
     let f = c .before .fits .v in
     omega (ints, minus v (pos 1), apart (eq-left f (lit lowest tt) (c .if1 .left)))
 
-sub-next : tie.Need-sub-next
-sub-next c = let g = below-fits c in search needs
+sub-previous : tie.Need-sub-previous
+sub-previous c = let g = below-fits c in search needs
 
 returns : tie.Need-returns
 returns c =
@@ -39,4 +39,4 @@ returns-3 c =
     neighbour-out (a .column) (a .operator) (one-below (e .before .fits .v) (below-fits e)) (c .before .holds .ensures) (c .if2 .left)
 
 pub try-decrement-number-spec : {M : Type 1} → statement M
-try-decrement-number-spec = tie.close (tie.spec returns sub-next (search needs) returns-2 returns-3)
+try-decrement-number-spec = tie.close (tie.spec returns sub-previous (search needs) returns-2 returns-3)
