@@ -1,4 +1,4 @@
--- What each return of src/number.rt asks, for `search`: the arm that was taken, and what the calls in it gave. Assumes nothing.
+-- What each return of src/steps.rt asks, for `search`: the arm that was taken, and what the calls in it gave. Assumes nothing.
 use Prim.Native.Nat.{ℕ}
 use mathlib.Core.Bool.{Bool, true, false, cond}
 use mathlib.Core.List.{[], _∷_, map}

@@ -1,4 +1,4 @@
--- What each return of src/bytes.rt asks, for `search`: the arm that was taken, and what the calls in it gave. Assumes nothing.
+-- What each return of src/steps.rt asks, for `search`: the arm that was taken, and what the calls in it gave. Assumes nothing.
 use Prim.Native.Nat.{ℕ, _≤_, _<_}
 use native.Mathlib.Omega.{arith}
 use mathlib.Core.Bool.{true, false, cond, true≢false}

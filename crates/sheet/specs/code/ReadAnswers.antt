@@ -155,7 +155,7 @@ pub record LiteralsRead (s records : List ℕ) (x : sheets.Sheet) : Type 0 where
 
 -- ---- a value
 
--- of a value that is present, how many bytes it has
+-- whether there is a value
 abbrev pub valueResult : Res (Row (List ℕ)) → ValueResult
 valueResult (ok missing) = value-result.Missing
 valueResult (ok (present bs)) = value-result.Present
