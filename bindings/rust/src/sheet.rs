@@ -21,7 +21,10 @@
 
 use std::fmt::{self, Debug, Formatter};
 
-use crate::record::{content, content_record, missing_record, next, next_bytes, Head};
+use crate::bytes::Bytes;
+use crate::record::{
+    self, content, head_record, next, next_bytes, put_content, put_missing, EMPTY,
+};
 use crate::{LeafError, Literal, PredicateOperator, Refusal, Transform, Type};
 
 pub use crate::record::{
@@ -35,27 +38,29 @@ pub use crate::routines::{holds, project_into, strict_project_into, transform_in
 /// together is left to the routines, which answer [`Refusal::Malformed`]; [`Leaf`](crate::Leaf) sees to it.
 #[derive(Clone, PartialEq, Eq, Hash)]
 pub struct Sheet {
-    head: Head,
-    bytes: Vec<u8>,
+    bytes: Bytes,
 }
 
 impl Sheet {
     /// A sheet without literals.
     pub fn new(operator: PredicateOperator, column_type: Type, transform: Transform) -> Sheet {
-        let head = Head {
-            operator,
-            column_type,
-            transform,
-        };
-        // Most leaves have one literal.
-        Sheet::with_head(head, 2 * RECORD)
+        let bytes = Bytes::one(head_record(0, operator, column_type, transform));
+        Sheet { bytes }
     }
 
-    /// A sheet without literals, with room for so many bytes.
-    fn with_head(head: Head, room: usize) -> Sheet {
-        let mut bytes = Vec::with_capacity(room);
-        bytes.extend(head.record());
-        Sheet { head, bytes }
+    /// A sheet with one literal.
+    #[inline]
+    pub(crate) fn with_one(
+        operator: PredicateOperator,
+        transform: Transform,
+        literal: &Literal,
+    ) -> Result<Sheet, LeafError> {
+        let column_type = literal.column_type();
+        let head = head_record(1, operator, column_type, transform);
+        let mut record = EMPTY;
+        literal.put(column_type, &mut record)?;
+        let bytes = Bytes::two(&head, &record);
+        Ok(Sheet { bytes })
     }
 
     /// Starts over with a new head and no literals; the memory is kept.
@@ -65,78 +70,102 @@ impl Sheet {
         column_type: Type,
         transform: Transform,
     ) {
-        self.head = Head {
-            operator,
-            column_type,
-            transform,
-        };
-        self.bytes.clear();
-        self.bytes.extend(self.head.record());
+        let head = head_record(0, operator, column_type, transform);
+        self.bytes.restart(&head);
     }
 
     /// Adds a literal at the end of the chain. It has the column's type, and there are at most [`ANSWER_LITERALS`].
     pub fn push(&mut self, literal: &Literal) -> Result<(), LeafError> {
-        if literal.column_type() != self.column_type() {
-            let (column, other) = (self.column_type(), literal.column_type());
-            return Err(LeafError::WrongType(column, other));
-        }
+        let mut record = EMPTY;
+        literal.put(self.column_type(), &mut record)?;
         if self.len() == ANSWER_LITERALS {
             return Err(LeafError::TooMany(ANSWER_LITERALS));
         }
-        self.push_record(&literal.record()?);
+        self.push_record(&record);
         Ok(())
     }
 
     /// Adds a literal's record, and makes it the next of the last one.
     fn push_record(&mut self, record: &Record) {
-        let last = self.bytes.len() - RECORD;
+        let bytes = self.bytes.as_mut_slice();
+        let last = bytes.len() - RECORD;
         // At most ANSWER_LITERALS + 1 records, so the number fits.
-        let number = (self.bytes.len() / RECORD) as u16;
-        self.bytes[last..last + 2].copy_from_slice(&next_bytes(number));
-        self.bytes.extend(record);
+        let number = (bytes.len() / RECORD) as u16;
+        bytes[last..last + 2].copy_from_slice(&next_bytes(number));
+        self.bytes.push(record);
     }
 
     /// Reads the bytes of a sheet: of a leaf, or of an answer. Records off the chain are left out.
     pub fn from_bytes(bytes: &[u8]) -> Result<Sheet, Refusal> {
         // The holds-test reads a sheet whole before it answers; a missing value is one of every type.
-        holds(bytes, &missing_record())?;
+        let mut missing = EMPTY;
+        put_missing(&mut missing);
+        holds(bytes, &missing)?;
         Sheet::read(bytes).ok_or(Refusal::Malformed)
     }
 
-    /// The sheet in bytes that the library has read or written, and so found well-formed.
-    pub(crate) fn read(bytes: &[u8]) -> Option<Sheet> {
+    /// The records on the chain of bytes that the library has read, and so found well-formed.
+    fn read(bytes: &[u8]) -> Option<Sheet> {
         let mut record: &Record = bytes.first_chunk()?;
-        let mut sheet = Sheet::with_head(Head::read(record)?, bytes.len());
+        let mut head = *record;
+        head[..2].copy_from_slice(&next_bytes(0));
+        let mut sheet = Sheet {
+            bytes: Bytes::one(head),
+        };
         while next(record) != 0 {
             record = bytes.get(RECORD * next(record)..)?.first_chunk()?;
-            sheet.push_record(&content_record(content(record)?)?);
+            let mut alone = EMPTY;
+            put_content(&mut alone, content(record)?)?;
+            sheet.push_record(&alone);
         }
         Some(sheet)
     }
 
+    /// An answer sheet that the library wrote: it has no other records than those on its chain, in their order.
+    #[inline]
+    pub(crate) fn answered(bytes: &[u8]) -> Sheet {
+        let bytes = Bytes::copy(bytes);
+        Sheet { bytes }
+    }
+
     /// Its bytes, as the routines take them.
     pub fn as_bytes(&self) -> &[u8] {
-        &self.bytes
+        self.bytes.as_slice()
+    }
+
+    /// Its head.
+    fn head(&self) -> &Record {
+        let head = self.as_bytes().first_chunk();
+        head.expect("every sheet has a head")
     }
 
     /// Its operator.
     pub fn operator(&self) -> PredicateOperator {
-        self.head.operator
+        record::operator(self.head()).expect("every operator of a sheet is listed")
+    }
+
+    /// The same literals with the operator's negation, which takes as many.
+    pub(crate) fn negate(&self) -> Sheet {
+        let mut sheet = self.clone();
+        let bytes = sheet.bytes.as_mut_slice();
+        let head = bytes.first_chunk_mut().expect("every sheet has a head");
+        record::set_operator(head, self.operator().negate());
+        sheet
     }
 
     /// The type of its literals and of the values that it is asked about.
     pub fn column_type(&self) -> Type {
-        self.head.column_type
+        record::column_type(self.head()).expect("every type of a sheet is listed")
     }
 
     /// Its transform; Identity in an answer sheet.
     pub fn transform(&self) -> Transform {
-        self.head.transform
+        record::transform(self.head()).expect("every transform of a sheet is listed")
     }
 
     /// How many literals it has.
     pub fn len(&self) -> usize {
-        self.bytes.len() / RECORD - 1
+        self.as_bytes().len() / RECORD - 1
     }
 
     /// Whether it has no literals.
@@ -146,7 +175,7 @@ impl Sheet {
 
     /// Its literals, in the order of the chain.
     pub fn literals(&self) -> impl ExactSizeIterator<Item = Literal> + '_ {
-        let records = self.bytes[RECORD..].chunks_exact(RECORD);
+        let records = self.as_bytes()[RECORD..].chunks_exact(RECORD);
         records.map(|bytes| {
             bytes
                 .first_chunk()
