@@ -71,6 +71,7 @@ pub(crate) struct Answer {
 /// # Safety
 ///
 /// `out` is lent to this call alone, for writing `out_len` bytes.
+#[inline]
 unsafe fn project_at(question: Question, sheet: &[u8], out: *mut u8, out_len: usize) -> Answer {
     let projection = match question {
         Question::Inclusive => weighpick_project,
@@ -91,6 +92,7 @@ unsafe fn project_at(question: Question, sheet: &[u8], out: *mut u8, out_len: us
 /// # Safety
 ///
 /// As for `project_at`.
+#[inline]
 unsafe fn transform_at(setting: Setting, value: &[u8], out: *mut u8, out_len: usize) -> Answer {
     let mut count = 0;
     // SAFETY: as in `project_at`; the three numbers may have any value.
@@ -119,6 +121,7 @@ pub(crate) fn project_into(question: Question, sheet: &[u8], out: &mut [u8]) -> 
 }
 
 /// A projection into a buffer of its own: the number and the written bytes are handed to `take`.
+#[inline]
 pub(crate) fn project<T>(
     question: Question,
     sheet: &[u8],
@@ -141,6 +144,7 @@ pub(crate) fn transform_into(setting: Setting, value: &[u8], out: &mut [u8]) -> 
 }
 
 /// The transform of one value into a buffer of its own: the number and the written bytes are handed to `take`.
+#[inline]
 pub(crate) fn transform<T>(
     setting: Setting,
     value: &[u8],

@@ -17,6 +17,7 @@ fn refusal(number: u32) -> Refusal {
 }
 
 /// A projection's answer by its number: what is made of the answer sheet, none, or a refusal.
+#[inline]
 fn projected<T>(number: u32, result: impl FnOnce() -> T) -> Result<Option<T>, Refusal> {
     match number {
         RESULT => Ok(Some(result())),
@@ -26,6 +27,7 @@ fn projected<T>(number: u32, result: impl FnOnce() -> T) -> Result<Option<T>, Re
 }
 
 /// A projection into a buffer that goes with the call: what `take` makes of the answer sheet, none, or a refusal.
+#[inline]
 pub(crate) fn project<T>(
     question: Question,
     sheet: &[u8],
@@ -86,6 +88,7 @@ fn setting(transform: Transform, column_type: Type) -> Setting {
 
 /// The transform of a value record into a buffer that goes with the call: what `take` makes of the partition value's record, or a
 /// refusal.
+#[inline]
 pub(crate) fn transform<T>(
     transform: Transform,
     column_type: Type,

@@ -73,6 +73,7 @@ impl Value {
     }
 
     /// The value in a record that the library wrote.
+    #[inline]
     pub(crate) fn read(column_type: Type, record: &[u8]) -> Value {
         match record.first_chunk().and_then(content) {
             None => Value::Missing,

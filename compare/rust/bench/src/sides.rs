@@ -116,7 +116,7 @@ pub fn time_transform(kind: &Values) -> Times {
 fn pass<'a, T, R>(inputs: &'a [T], mut call: impl FnMut(&T) -> R + 'a) -> Option<Side<'a>> {
     Some(Box::new(move || {
         for input in inputs {
-            black_box(call(black_box(input)));
+            black_box(&call(black_box(input)));
         }
     }))
 }
