@@ -3,7 +3,7 @@
 use crate::ffi::Question;
 use crate::record::{EMPTY, LARGEST_SHEET, LITERALS};
 use crate::routines::{meets, project};
-use crate::sheet::Sheet;
+use crate::sheets::Sheet;
 use crate::{
     LeafError, Literal, Predicate, PredicateOperator, Refusal, Transform, Type, Value, ValueError,
 };

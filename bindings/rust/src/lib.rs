@@ -50,6 +50,7 @@ mod record;
 mod refusal;
 mod routines;
 pub mod sheet;
+mod sheets;
 mod text;
 mod transform;
 mod types;

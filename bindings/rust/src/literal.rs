@@ -72,18 +72,20 @@ impl Literal {
         if self.column_type() != column_type {
             return Err(ValueError::WrongType(column_type, self.column_type()));
         }
-        let content = match self {
-            Literal::Int(v) | Literal::Date(v) => return Ok(put_int(record, *v)),
+        let mut bytes =
+            |content: &[u8]| put_content(record, content).ok_or(ValueError::TooLong(content.len()));
+        match self {
+            Literal::Int(v) | Literal::Date(v) => put_int(record, *v),
             Literal::Long(v)
             | Literal::Time(v)
             | Literal::Timestamp(v)
             | Literal::Timestamptz(v)
             | Literal::TimestampNs(v)
-            | Literal::TimestamptzNs(v) => return Ok(put_long(record, *v)),
-            Literal::String(text) => text.as_bytes(),
-            Literal::Binary(bytes) => bytes,
-        };
-        put_content(record, content).ok_or(ValueError::TooLong(content.len()))
+            | Literal::TimestamptzNs(v) => put_long(record, *v),
+            Literal::String(text) => bytes(text.as_bytes())?,
+            Literal::Binary(content) => bytes(content)?,
+        }
+        Ok(())
     }
 
     /// The literal of a type with this content; none where the content is not of the type.

@@ -2,7 +2,7 @@
 
 use crate::record::{Record, EMPTY};
 use crate::routines::meets;
-use crate::sheet::Sheet;
+use crate::sheets::Sheet;
 use crate::{Literal, PredicateOperator, Refusal, Transform, Type, Value, ValueError};
 
 /// An operator with its literals on a partition field.

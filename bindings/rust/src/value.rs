@@ -60,9 +60,10 @@ impl Value {
     #[inline]
     pub(crate) fn put(&self, column_type: Type, record: &mut Record) -> Result<(), ValueError> {
         match self {
-            Value::Missing => Ok(put_missing(record)),
-            Value::Present(literal) => literal.put(column_type, record),
+            Value::Missing => put_missing(record),
+            Value::Present(literal) => literal.put(column_type, record)?,
         }
+        Ok(())
     }
 
     /// The value in a record of a column of a type.
