@@ -1,7 +1,8 @@
 //! Sheets, the bytes behind leaves and predicates, and the four routines over them.
 //!
 //! For callers that keep their buffers, or that get sheets from elsewhere. One [`Sheet`] may be written again and again, and one
-//! result buffer lent to every call; a predicate may stay in the buffer and be tested there.
+//! result buffer lent to every call; a predicate may stay in the buffer and be tested there. `docs/FORMAT.md` in the repository
+//! says what each byte of a sheet, a value and an answer is.
 //!
 //! ```
 //! use weighpick::sheet::{holds, project_into, Sheet, SHEET_BUFFER};
@@ -16,7 +17,7 @@
 //!     let partition = Value::from(Literal::Int(150)).to_record(Type::Int)?;
 //!     assert_eq!(holds(predicate, &partition)?, grams > 150);
 //! }
-//! # Ok::<(), Box<dyn std::error::Error>>(())
+//! # Ok::<(), weighpick::Error>(())
 //! ```
 
 pub use crate::record::{

@@ -12,6 +12,7 @@ mod rust_crate;
 mod sides;
 mod tables;
 
+use std::collections::BTreeSet;
 use std::process::ExitCode;
 
 use beside::crate_side;
@@ -29,8 +30,8 @@ fn main() -> ExitCode {
     let only = std::env::args().nth(1).unwrap_or_default();
     let kinds: Vec<Kind> = kinds::all().into_iter().filter(|kind| kind.name().contains(&only)).collect();
     if kinds.is_empty() {
-        let mut names: Vec<String> = kinds::all().iter().map(|kind| kind.name().to_string()).collect();
-        names.dedup();
+        let names: BTreeSet<String> = kinds::all().iter().map(|kind| kind.name().to_string()).collect();
+        let names: Vec<String> = names.into_iter().collect();
         eprintln!("bench: no kind has `{only}` in its name; the kinds are\n  {}", names.join("\n  "));
         return ExitCode::from(MISUSED);
     }
