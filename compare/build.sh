@@ -5,7 +5,7 @@ here=$(dirname "$(realpath "$0")")
 
 usage() {
   cat <<'TEXT'
-build.sh --crate DIR [options]    the crate from DIR, a folder with its published files (DIR/src/spec/transform.rs and so on), with stand-ins for what they lean on
+build.sh --crate DIR [options]    the crate from DIR, a folder with its published files (DIR/src/..), with stand-ins for what they lean on
 build.sh --registry [options]     the crate from the registry, iceberg = "=0.10.1" with all it needs (UNTRIED: needs a network that this was not built in)
 
   --lib FILE        the port's static library (default: ../target/staticlib/libweighpick_c.a; `rt staticlib weighpick_c` makes it)
@@ -14,8 +14,8 @@ build.sh --registry [options]     the crate from the registry, iceberg = "=0.10.
   --profile NAME    cargo profile: release (overflow checks on, the default) or bench-crate (cargo's ordinary release)
   --test            run the tests of rust/beside, rust/compare and of the stand-in for chrono, too (profile release)
 
-The last line of the output is the folder of the programs; progress goes to standard error. Ends with 2 if anything is wrong. With --crate, Debian's packages of the real crates are downloaded by name
-(apt-get download; `apt-get update` first on a fresh machine) and unpacked below OUT. STANDINS.md says what stands in for what.
+The last line of the output is the folder of the programs; progress goes to standard error. Ends with 2 if anything is wrong.
+With --crate, Debian's packages of the real crates are downloaded by name (apt-get download; `apt-get update` first on a fresh machine) and unpacked below OUT. STANDINS.md says what stands in for what.
 TEXT
 }
 
