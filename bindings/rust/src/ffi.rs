@@ -45,6 +45,35 @@ extern "C" {
     ) -> u32;
 }
 
+/// Memory for a result that goes with the call. It starts with a line of the cache, so that no record lies in two.
+#[repr(align(64))]
+struct Own<const N: usize>(MaybeUninit<[u8; N]>);
+
+impl<const N: usize> Own<N> {
+    /// Not cleared: clearing a sheet's would take longer than most projections.
+    #[inline]
+    fn new() -> Own<N> {
+        Own(MaybeUninit::uninit())
+    }
+
+    /// Where it starts. No reference to its bytes is made before they are written.
+    #[inline]
+    fn start(&mut self) -> *mut u8 {
+        self.0.as_mut_ptr().cast()
+    }
+
+    /// Its first bytes.
+    ///
+    /// # Safety
+    ///
+    /// So many bytes were written, and there are so many.
+    #[inline]
+    unsafe fn written(&self, count: usize) -> &[u8] {
+        // SAFETY: what this function asks.
+        unsafe { slice::from_raw_parts(self.0.as_ptr().cast(), count) }
+    }
+}
+
 /// One of the two projections.
 #[derive(Clone, Copy)]
 pub(crate) enum Question {
@@ -127,14 +156,11 @@ pub(crate) fn project<T>(
     sheet: &[u8],
     take: impl FnOnce(u32, &[u8]) -> T,
 ) -> T {
-    // Not cleared: clearing it would take longer than most projections.
-    let mut out = MaybeUninit::<[u8; SHEET_BUFFER]>::uninit();
-    // SAFETY: `out` is a variable of its own with room for so many bytes. No reference to it is made before it is written to.
-    let answer = unsafe { project_at(question, sheet, out.as_mut_ptr().cast(), SHEET_BUFFER) };
-    // SAFETY: the library has written so many bytes at the start of `out`, and the slice ends there.
-    take(answer.number, unsafe {
-        slice::from_raw_parts(out.as_ptr().cast(), answer.count)
-    })
+    let mut out = Own::<SHEET_BUFFER>::new();
+    // SAFETY: `out` is a variable of its own with room for so many bytes.
+    let answer = unsafe { project_at(question, sheet, out.start(), SHEET_BUFFER) };
+    // SAFETY: the library has written so many bytes at the start of `out`.
+    take(answer.number, unsafe { out.written(answer.count) })
 }
 
 /// The transform of one value into a lent buffer.
@@ -150,13 +176,11 @@ pub(crate) fn transform<T>(
     value: &[u8],
     take: impl FnOnce(u32, &[u8]) -> T,
 ) -> T {
-    let mut out = MaybeUninit::<[u8; VALUE_BUFFER]>::uninit();
+    let mut out = Own::<VALUE_BUFFER>::new();
     // SAFETY: as in `project`.
-    let answer = unsafe { transform_at(setting, value, out.as_mut_ptr().cast(), VALUE_BUFFER) };
+    let answer = unsafe { transform_at(setting, value, out.start(), VALUE_BUFFER) };
     // SAFETY: as in `project`.
-    take(answer.number, unsafe {
-        slice::from_raw_parts(out.as_ptr().cast(), answer.count)
-    })
+    take(answer.number, unsafe { out.written(answer.count) })
 }
 
 /// The holds-test; gives document 01's number.

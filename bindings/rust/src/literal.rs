@@ -89,6 +89,7 @@ impl Literal {
     }
 
     /// The literal of a type with this content; none where the content is not of the type.
+    #[inline]
     pub(crate) fn from_content(column_type: Type, content: &[u8]) -> Option<Literal> {
         let int = || Some(i32::from_le_bytes(content.try_into().ok()?));
         let long = || Some(i64::from_le_bytes(content.try_into().ok()?));

@@ -89,20 +89,17 @@ fn setting(transform: Transform, column_type: Type) -> Setting {
 /// The transform of a value record into a buffer that goes with the call: what `take` makes of the partition value's record, or a
 /// refusal.
 #[inline]
-pub(crate) fn transform<T>(
+pub(crate) fn transform<T, E: From<Refusal>>(
     transform: Transform,
     column_type: Type,
     value: &[u8],
-    take: impl FnOnce(&[u8]) -> T,
-) -> Result<T, Refusal> {
-    ffi::transform(
-        setting(transform, column_type),
-        value,
-        |number, written| match number {
-            RESULT => Ok(take(written)),
-            number => Err(refusal(number)),
-        },
-    )
+    take: impl FnOnce(&[u8]) -> Result<T, E>,
+) -> Result<T, E> {
+    let setting = setting(transform, column_type);
+    ffi::transform(setting, value, |number, written| match number {
+        RESULT => take(written),
+        number => Err(refusal(number).into()),
+    })
 }
 
 /// The transform of a value record. The partition value's record is written to the start of `out` and handed back; after a refusal

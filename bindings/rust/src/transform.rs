@@ -122,8 +122,9 @@ impl Transform {
         let mut record = EMPTY;
         value.put(column_type, &mut record)?;
         let result_type = self.result_type(column_type);
-        let read = |partition: &[u8]| Ok(Value::read(result_type?, partition));
-        transform(self, column_type, &record, read)?
+        transform(self, column_type, &record, |partition| {
+            Ok(Value::read(result_type?, partition))
+        })
     }
 }
 

@@ -69,8 +69,9 @@ impl Value {
     /// The value in a record of a column of a type.
     pub fn from_record(column_type: Type, record: &[u8]) -> Result<Value, Refusal> {
         // Identity hands back every value record, and refuses whatever is none.
-        let read = |whole: &[u8]| Value::read(column_type, whole);
-        transform(Transform::Identity, column_type, record, read)
+        transform(Transform::Identity, column_type, record, |whole| {
+            Ok(Value::read(column_type, whole))
+        })
     }
 
     /// The value in a record that the library wrote.
