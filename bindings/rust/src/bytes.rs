@@ -5,7 +5,7 @@ use std::hash::{Hash, Hasher};
 use crate::record::{Record, RECORD};
 
 /// The bytes of a sheet's records, in the order of its chain. Most sheets have one record or two, and these lie in place: memory
-/// from the heap takes as long as the projection of a leaf.
+/// from the heap takes about a third of the time that the projection of such a leaf does.
 #[derive(Clone)]
 pub(crate) enum Bytes {
     One(Aligned<RECORD>),
