@@ -4,9 +4,9 @@ use std::fmt::{self, Debug, Formatter};
 
 use crate::bytes::Bytes;
 use crate::record::{
-    self, content, head_record, next, next_bytes, put_content, put_missing, EMPTY,
+    self, content, head_record, next, next_bytes, put_content, put_missing, Record,
+    ANSWER_LITERALS, EMPTY, RECORD,
 };
-use crate::record::{Record, ANSWER_LITERALS, RECORD};
 use crate::routines::holds;
 use crate::{LeafError, Literal, PredicateOperator, Refusal, Transform, Type};
 
