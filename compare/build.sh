@@ -14,48 +14,57 @@ build.sh --registry [options]     the crate from the registry, iceberg = "=0.10.
   --profile NAME    cargo profile: release (overflow checks on, the default) or bench-crate (cargo's ordinary release)
   --test            run the tests of rust/beside, rust/compare and of the stand-in for chrono, too (profile release)
 
-The last line of the output is the folder of the programs. With --crate, Debian's packages of the real crates are downloaded by name
-(apt-get download; `apt-get update` first on a fresh machine) and unpacked below OUT. STANDINS.md says what stands in for what.
+The last line of the output is the folder of the programs; progress goes to standard error. Ends with 2 if anything is wrong.
+With --crate, Debian's packages of the real crates are downloaded by name (apt-get download; `apt-get update` first on a fresh machine) and unpacked below OUT. STANDINS.md says what stands in for what.
 TEXT
 }
 
-fail() { echo "build.sh: $*" >&2; exit 1; }
+say() { echo "build.sh: $*" >&2; }
+fail() { say "$@"; exit 2; }
 
 crate= registry= package= test= profile=release
 lib=$here/../target/staticlib/libweighpick_c.a
 out=$here/../target/compare
 while [ $# -gt 0 ]; do
   case $1 in
-    --crate) crate=${2:?--crate needs a folder}; shift 2 ;;
+    --crate | --lib | --out | --package | --profile) [ -n "${2:-}" ] || fail "$1 needs a value" ;;
+  esac
+  case $1 in
+    --crate) crate=$2; shift 2 ;;
     --registry) registry=yes; shift ;;
-    --lib) lib=${2:?--lib needs a file}; shift 2 ;;
-    --out) out=${2:?--out needs a folder}; shift 2 ;;
-    --package) package=${2:?--package needs a name}; shift 2 ;;
-    --profile) profile=${2:?--profile needs a name}; shift 2 ;;
+    --lib) lib=$2; shift 2 ;;
+    --out) out=$2; shift 2 ;;
+    --package) package=$2; shift 2 ;;
+    --profile) profile=$2; shift 2 ;;
     --test) test=yes; shift ;;
-    --help) usage; exit ;;
-    *) usage >&2; exit 2 ;;
+    -h | --help) usage; exit ;;
+    *) say "no option $1"; usage >&2; exit 2 ;;
   esac
 done
-[ -n "$crate" ] || [ -n "$registry" ] || { usage >&2; exit 2; }
+[ -n "$crate" ] || [ -n "$registry" ] || { say "--crate or --registry is missing"; usage >&2; exit 2; }
 [ -z "$crate" ] || [ -z "$registry" ] || fail "--crate and --registry exclude each other"
-[ -z "$crate" ] || [ -d "$crate/src" ] || fail "no folder $crate/src"
+[ -z "$crate" ] || [ -f "$crate/src/spec/transform.rs" ] || fail "no published files of the crate in $crate: there is no $crate/src/spec/transform.rs"
+command -v cargo >/dev/null || fail "cargo is not on the PATH"
 
 # The port's static library.
 if [ ! -e "$lib" ]; then
   command -v rt >/dev/null && [ "$(realpath -m "$lib")" = "$(realpath -m "$here/../target/staticlib/libweighpick_c.a")" ] ||
     fail "no $lib: run \`rt staticlib weighpick_c\` in the repository first"
-  (cd "$here/.." && rt staticlib weighpick_c)
+  say "no $lib yet: rt staticlib weighpick_c"
+  (cd "$here/.." && rt staticlib weighpick_c) >&2 || fail "rt staticlib weighpick_c failed"
 fi
 WEIGHPICK_LIB=$(realpath "$lib")
-export WEIGHPICK_LIB
+WEIGHPICK_LIB_DIR=$(dirname "$WEIGHPICK_LIB")
+export WEIGHPICK_LIB WEIGHPICK_LIB_DIR
 
-# A fresh copy of the sources below OUT; times are kept, so that cargo rebuilds only what changed.
-mkdir -p "$out"
+# A fresh copy of the sources below OUT, the port's Rust crate among them; times are kept, so that cargo rebuilds only what changed.
+mkdir -p "$out" || fail "cannot make $out"
 out=$(realpath "$out")
 work=$out/rust${registry:+-registry}
 rm -rf "$work"
 cp -rp "$here/rust" "$work"
+mkdir "$work/weighpick"
+cp -rp "$here"/../bindings/rust/{Cargo.toml,build.rs,src,examples} "$work/weighpick"
 export CARGO_TARGET_DIR=$out/target${registry:+-registry}
 
 # Debian's packages of the real crates, unpacked below OUT.
@@ -64,9 +73,11 @@ debian_crates() {
     num-traits num-integer autocfg itoa ryu either syn quote proc-macro2 unicode-ident"
   mkdir -p "$out/debs" "$out/vendor"
   for p in $packages; do
-    compgen -G "$out/debs/librust-$p-dev_*.deb" >/dev/null ||
+    if ! compgen -G "$out/debs/librust-$p-dev_*.deb" >/dev/null; then
+      say "fetching librust-$p-dev"
       (cd "$out/debs" && apt-get download "librust-$p-dev" >/dev/null 2>&1) ||
-      fail "cannot fetch librust-$p-dev (apt-get update first?)"
+        fail "cannot fetch librust-$p-dev (apt-get update first?)"
+    fi
     dpkg-deb -x "$out"/debs/librust-"$p"-dev_*.deb "$out/vendor"
   done
 }
@@ -101,10 +112,11 @@ else
   export CARGO_HOME=$out/cargo-home
 fi
 
-(cd "$work" && cargo build $offline --profile "$profile" ${package:+--package "$package"})
+say "building in $work"
+(cd "$work" && cargo build $offline --profile "$profile" ${package:+--package "$package"}) || fail "the build failed"
 if [ -n "$test" ]; then
-  (cd "$work" && cargo test $offline --release --package beside --package compare)
-  [ -n "$registry" ] || (cd "$work/standins/chrono" && cargo test $offline --release)
+  (cd "$work" && cargo test $offline --release --package beside --package compare) || fail "a test failed"
+  [ -n "$registry" ] || (cd "$work/standins/chrono" && cargo test $offline --release) || fail "a test failed"
 fi
 unchanged
 [ -n "$registry" ] || echo "$(wc -w <<<"$published") published files, unchanged before and after the build"

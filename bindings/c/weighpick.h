@@ -3,7 +3,7 @@
  *
  * A sheet is a chain of records. Record 0, the head, says operator, column type, transform and width; every further record on
  * the chain is a literal. A projection answers with such a sheet, the predicate that partition values are tested with. A value is
- * one literal record. Numbers in records are little-endian, two's complement.
+ * one literal record. Numbers in records are little-endian, two's complement. docs/FORMAT.md says all of it, with an example.
  *
  * The routines take bytes of every kind, keep no state and may run on several threads at once. Any lent memory must be readable
  * (`out` and `count`: writable) for its whole length; no pointer may be null, also with a length of 0; `out` and `count` may not
@@ -13,7 +13,7 @@
 #define WEIGHPICK_H
 
 /* The version; bindings/rust/Cargo.toml has the same, and CHANGELOG.md says what it has. */
-#define WEIGHPICK_VERSION "0.1.0"
+#define WEIGHPICK_VERSION "0.2.0"
 
 #include <stddef.h>
 #include <stdint.h>

@@ -10,7 +10,8 @@ mod words;
 const WRONG_WORDS: u8 = 2;
 
 const USAGE: &str = "\
-usage: leaf TYPE TRANSFORM OPERATOR [LITERAL ..]
+usage: leaf TYPE TRANSFORM OPERATOR [LITERAL ..]     prints both projections of a leaf, as program weighpick does
+       leaf --help
   TYPE       int long date time timestamp timestamptz timestamp_ns timestamptz_ns string binary
   TRANSFORM  identity, truncate WIDTH, year, month, day, hour, void, unknown
   OPERATOR   is-null not-null is-nan not-nan '<' '<=' '>' '>=' = != starts-with not-starts-with in not-in
@@ -24,6 +25,10 @@ as in:
 fn main() -> ExitCode {
     let given: Result<Vec<String>, OsString> =
         env::args_os().skip(1).map(OsString::into_string).collect();
+    if given.as_ref().is_ok_and(|given| words::ask_for_help(given)) {
+        println!("{USAGE}");
+        return ExitCode::SUCCESS;
+    }
     let leaf = given
         .map_err(|_| "a word is not UTF-8".to_string())
         .and_then(|given| words::leaf(&given));

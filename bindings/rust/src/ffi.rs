@@ -1,12 +1,16 @@
 //! The entry points of the static library, and all of this crate's `unsafe`.
 //!
 //! The library reads the lent bytes, writes at most to the start of `out` and to `count`, keeps no pointer and has no state. It
-//! is proved to do so for bytes of every kind, so the functions below ask nothing of their callers.
+//! is proved to do so for bytes of every kind, so the safe functions below ask nothing of their callers. Proved as well is that
+//! number, count and the written bytes are the same whatever `out` held before the call: `out` may be memory that nothing was
+//! written to.
 
 #![allow(unsafe_code)]
 
-/// One of the two projections: sheet, result buffer, count of bytes written.
-type Projection = unsafe extern "C" fn(*const u8, usize, *mut u8, usize, *mut u64) -> u32;
+use std::mem::MaybeUninit;
+use std::slice;
+
+use crate::record::{SHEET_BUFFER, VALUE_BUFFER};
 
 extern "C" {
     fn weighpick_project(
@@ -41,72 +45,142 @@ extern "C" {
     ) -> u32;
 }
 
-/// An answer: document 01's number, and how many bytes were written.
+/// Memory for a result that goes with the call. It starts with a line of the cache, so that no record lies in two.
+#[repr(align(64))]
+struct Own<const N: usize>(MaybeUninit<[u8; N]>);
+
+impl<const N: usize> Own<N> {
+    /// Not cleared: clearing a sheet's would take longer than most projections.
+    #[inline]
+    fn new() -> Own<N> {
+        Own(MaybeUninit::uninit())
+    }
+
+    /// Where it starts. No reference to its bytes is made before they are written.
+    #[inline]
+    fn start(&mut self) -> *mut u8 {
+        self.0.as_mut_ptr().cast()
+    }
+
+    /// Its first bytes.
+    ///
+    /// # Safety
+    ///
+    /// So many bytes were written, and there are so many.
+    #[inline]
+    unsafe fn written(&self, count: usize) -> &[u8] {
+        // SAFETY: what this function asks.
+        unsafe { slice::from_raw_parts(self.0.as_ptr().cast(), count) }
+    }
+}
+
+/// One of the two projections.
+#[derive(Clone, Copy)]
+pub(crate) enum Question {
+    Inclusive,
+    Strict,
+}
+
+/// What a value is transformed under, in document 01's numbers.
+#[derive(Clone, Copy)]
+pub(crate) struct Setting {
+    pub(crate) column_type: u8,
+    pub(crate) transform: u8,
+    pub(crate) width: u32,
+}
+
+/// An answer: document 01's number, and how many bytes were written. They are the first of the buffer, and no more than it has.
 pub(crate) struct Answer {
     pub(crate) number: u32,
     pub(crate) count: usize,
 }
 
-impl Answer {
-    /// The count is at most the length of a buffer, so it is a `usize`.
-    fn new(number: u32, count: u64) -> Answer {
-        Answer {
-            number,
-            count: count as usize,
-        }
+/// Asks a projection.
+///
+/// # Safety
+///
+/// `out` is lent to this call alone, for writing `out_len` bytes.
+#[inline]
+unsafe fn project_at(question: Question, sheet: &[u8], out: *mut u8, out_len: usize) -> Answer {
+    let projection = match question {
+        Question::Inclusive => weighpick_project,
+        Question::Strict => weighpick_strict_project,
+    };
+    let mut count = 0;
+    // SAFETY: the sheet's pointer comes from a live reference and goes with its length, `out` is as this function asks, and
+    // `count` is a variable of its own, so that nothing that is written overlaps anything else.
+    let number = unsafe { projection(sheet.as_ptr(), sheet.len(), out, out_len, &mut count) };
+    Answer {
+        number,
+        count: count as usize,
     }
 }
 
-/// Asks one of the two projections.
-fn ask(projection: Projection, sheet: &[u8], out: &mut [u8]) -> Answer {
+/// Asks for the transform of one value.
+///
+/// # Safety
+///
+/// As for `project_at`.
+#[inline]
+unsafe fn transform_at(setting: Setting, value: &[u8], out: *mut u8, out_len: usize) -> Answer {
     let mut count = 0;
-    // SAFETY: each pointer comes from a live reference and goes with that slice's length. `out` and `count` are borrowed
-    // exclusively, so nothing that is written overlaps anything else.
-    let number = unsafe {
-        projection(
-            sheet.as_ptr(),
-            sheet.len(),
-            out.as_mut_ptr(),
-            out.len(),
-            &mut count,
-        )
-    };
-    Answer::new(number, count)
-}
-
-/// The inclusive projection.
-pub(crate) fn project(sheet: &[u8], out: &mut [u8]) -> Answer {
-    ask(weighpick_project, sheet, out)
-}
-
-/// The strict projection.
-pub(crate) fn strict_project(sheet: &[u8], out: &mut [u8]) -> Answer {
-    ask(weighpick_strict_project, sheet, out)
-}
-
-/// The transform of one value.
-pub(crate) fn transform(
-    column_type: u8,
-    transform: u8,
-    width: u32,
-    value: &[u8],
-    out: &mut [u8],
-) -> Answer {
-    let mut count = 0;
-    // SAFETY: as in `ask`; the three numbers may have any value.
+    // SAFETY: as in `project_at`; the three numbers may have any value.
     let number = unsafe {
         weighpick_transform(
-            column_type,
-            transform,
-            width,
+            setting.column_type,
+            setting.transform,
+            setting.width,
             value.as_ptr(),
             value.len(),
-            out.as_mut_ptr(),
-            out.len(),
+            out,
+            out_len,
             &mut count,
         )
     };
-    Answer::new(number, count)
+    Answer {
+        number,
+        count: count as usize,
+    }
+}
+
+/// A projection into a lent buffer.
+pub(crate) fn project_into(question: Question, sheet: &[u8], out: &mut [u8]) -> Answer {
+    // SAFETY: `out` is borrowed exclusively and goes with its length.
+    unsafe { project_at(question, sheet, out.as_mut_ptr(), out.len()) }
+}
+
+/// A projection into a buffer of its own: the number and the written bytes are handed to `take`.
+#[inline]
+pub(crate) fn project<T>(
+    question: Question,
+    sheet: &[u8],
+    take: impl FnOnce(u32, &[u8]) -> T,
+) -> T {
+    let mut out = Own::<SHEET_BUFFER>::new();
+    // SAFETY: `out` is a variable of its own with room for so many bytes.
+    let answer = unsafe { project_at(question, sheet, out.start(), SHEET_BUFFER) };
+    // SAFETY: the library has written so many bytes at the start of `out`.
+    take(answer.number, unsafe { out.written(answer.count) })
+}
+
+/// The transform of one value into a lent buffer.
+pub(crate) fn transform_into(setting: Setting, value: &[u8], out: &mut [u8]) -> Answer {
+    // SAFETY: as in `project_into`.
+    unsafe { transform_at(setting, value, out.as_mut_ptr(), out.len()) }
+}
+
+/// The transform of one value into a buffer of its own: the number and the written bytes are handed to `take`.
+#[inline]
+pub(crate) fn transform<T>(
+    setting: Setting,
+    value: &[u8],
+    take: impl FnOnce(u32, &[u8]) -> T,
+) -> T {
+    let mut out = Own::<VALUE_BUFFER>::new();
+    // SAFETY: as in `project`.
+    let answer = unsafe { transform_at(setting, value, out.start(), VALUE_BUFFER) };
+    // SAFETY: as in `project`.
+    take(answer.number, unsafe { out.written(answer.count) })
 }
 
 /// The holds-test; gives document 01's number.

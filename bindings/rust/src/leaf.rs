@@ -1,14 +1,27 @@
 //! Leaves: what a filter asks of one column, and how the table is split by it.
 
-use crate::record::{LARGEST_SHEET, LITERALS, SHEET_BUFFER};
-use crate::routines::{holds, project_into, strict_project_into};
-use crate::sheet::Sheet;
-use crate::{LeafError, Literal, Predicate, PredicateOperator, Refusal, Transform, Type, Value};
+use crate::ffi::Question;
+use crate::record::{EMPTY, LARGEST_SHEET, LITERALS};
+use crate::routines::{meets, project};
+use crate::sheets::Sheet;
+use crate::{
+    LeafError, Literal, Predicate, PredicateOperator, Refusal, Transform, Type, Value, ValueError,
+};
 
 /// An operator with its literals on a column, and the transform that splits the table by this column.
 ///
 /// There is a constructor for each kind of operator, so that a leaf has as many literals as its operator takes and they all have
-/// the column's type.
+/// the column's type. Its text is the column's type, the transform, the operator and the literals, and is read back:
+///
+/// ```
+/// use weighpick::{Leaf, Literal, PredicateOperator, Transform};
+///
+/// let leaf = Leaf::binary(PredicateOperator::LessThan, Transform::Truncate(10), &Literal::Int(300))?;
+/// assert_eq!(leaf.to_string(), "int truncate[10] < 300");
+/// assert_eq!("int truncate[10] < 300".parse(), Ok(leaf.clone()));
+/// assert_eq!(leaf.negate().to_string(), "int truncate[10] >= 300");
+/// # Ok::<(), weighpick::Error>(())
+/// ```
 #[derive(Clone, Debug, PartialEq, Eq, Hash)]
 pub struct Leaf {
     sheet: Sheet,
@@ -25,8 +38,9 @@ impl Leaf {
     /// assert_eq!((read.operator(), read.column_type()), (PredicateOperator::IsNull, Type::Int));
     ///
     /// assert!(Leaf::unary(PredicateOperator::Eq, Type::Date, Transform::Month).is_err());
-    /// # Ok::<(), Box<dyn std::error::Error>>(())
+    /// # Ok::<(), weighpick::Error>(())
     /// ```
+    #[inline]
     pub fn unary(
         operator: PredicateOperator,
         column_type: Type,
@@ -48,8 +62,9 @@ impl Leaf {
     /// let read = lots.project()?.expect("StartsWith has an inclusive projection");
     /// assert_eq!(read.literals().collect::<Vec<_>>(), [Literal::string("ab")]);
     /// assert_eq!(lots.strict_project()?, None);
-    /// # Ok::<(), Box<dyn std::error::Error>>(())
+    /// # Ok::<(), weighpick::Error>(())
     /// ```
+    #[inline]
     pub fn binary(
         operator: PredicateOperator,
         transform: Transform,
@@ -58,8 +73,7 @@ impl Leaf {
         if !operator.is_binary() {
             return Err(LeafError::WrongOperator(operator));
         }
-        let mut sheet = Sheet::new(operator, literal.column_type(), transform);
-        sheet.push(literal)?;
+        let sheet = Sheet::with_one(operator, transform, literal)?;
         Ok(Leaf { sheet })
     }
 
@@ -72,7 +86,7 @@ impl Leaf {
     /// let leaf = Leaf::set(PredicateOperator::In, Type::Timestamp, Transform::Day, &moments)?;
     /// let read = leaf.project()?.expect("In has an inclusive projection");
     /// assert_eq!(read.literals().collect::<Vec<_>>(), [Literal::Date(0), Literal::Date(1)]);
-    /// # Ok::<(), Box<dyn std::error::Error>>(())
+    /// # Ok::<(), weighpick::Error>(())
     /// ```
     pub fn set<'a>(
         operator: PredicateOperator,
@@ -127,22 +141,35 @@ impl Leaf {
         self.sheet.literals()
     }
 
+    /// The leaf of a sheet that has as many literals as its operator takes, and at most [`LITERALS`].
+    pub(crate) fn from_sheet(sheet: Sheet) -> Leaf {
+        Leaf { sheet }
+    }
+
+    /// The leaf with the operator's negation. A present value meets one of the two and not the other; a missing value meets
+    /// neither, but IsNull.
+    #[must_use]
+    pub fn negate(&self) -> Leaf {
+        let sheet = self.sheet.negate();
+        Leaf { sheet }
+    }
+
     /// The inclusive projection: a predicate that accepts the partition value of every row that meets the leaf, or none.
+    ///
+    /// After `Ok(None)` and after a refusal every file has to be read; [`picker`](Leaf::picker) sees to it.
     pub fn project(&self) -> Result<Option<Predicate>, Refusal> {
-        let mut out = [0; SHEET_BUFFER];
-        let answer = project_into(self.as_bytes(), &mut out)?;
-        Ok(answer.map(Predicate::read))
+        project(Question::Inclusive, self.as_bytes(), Predicate::answered)
     }
 
     /// The strict projection: a predicate that accepts only partition values all of whose rows meet the leaf, or none.
     pub fn strict_project(&self) -> Result<Option<Predicate>, Refusal> {
-        let mut out = [0; SHEET_BUFFER];
-        let answer = strict_project_into(self.as_bytes(), &mut out)?;
-        Ok(answer.map(Predicate::read))
+        project(Question::Strict, self.as_bytes(), Predicate::answered)
     }
 
-    /// Whether a row with this value meets the leaf. A value of another type than the column's is [`Refusal::Malformed`].
-    pub fn holds(&self, value: &Value) -> Result<bool, Refusal> {
-        holds(self.as_bytes(), &value.to_record(self.column_type())?)
+    /// Whether a row with this value meets the leaf.
+    pub fn holds(&self, value: &Value) -> Result<bool, ValueError> {
+        let mut record = EMPTY;
+        value.put(self.column_type(), &mut record)?;
+        Ok(meets(self.as_bytes(), &record))
     }
 }

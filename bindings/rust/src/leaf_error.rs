@@ -4,7 +4,7 @@ use std::error::Error;
 use std::fmt::{self, Display, Formatter};
 
 use crate::record::CONTENT;
-use crate::{PredicateOperator, Type};
+use crate::{PredicateOperator, Type, ValueError};
 
 /// What stands against a leaf, before the library is asked.
 ///
@@ -26,6 +26,15 @@ pub enum LeafError {
     TooLong(usize),
     /// More literals than this, the most there may be.
     TooMany(usize),
+}
+
+impl From<ValueError> for LeafError {
+    fn from(error: ValueError) -> LeafError {
+        match error {
+            ValueError::WrongType(column, literal) => LeafError::WrongType(column, literal),
+            ValueError::TooLong(bytes) => LeafError::TooLong(bytes),
+        }
+    }
 }
 
 impl Display for LeafError {

@@ -1,6 +1,9 @@
 //! The operators of leaves and predicates, with the names and codes of the crate iceberg.
 
 use std::fmt::{self, Display, Formatter};
+use std::str::FromStr;
+
+use crate::ParseError;
 
 /// The operator of a leaf or of a predicate.
 #[derive(Clone, Copy, Debug, PartialEq, Eq, Hash)]
@@ -80,6 +83,27 @@ impl PredicateOperator {
     pub fn is_set(self) -> bool {
         self.number() >= PredicateOperator::In.number()
     }
+
+    /// The operator that a present value meets where it does not meet this one; it takes as many literals.
+    pub fn negate(self) -> PredicateOperator {
+        use PredicateOperator::*;
+        match self {
+            IsNull => NotNull,
+            NotNull => IsNull,
+            IsNan => NotNan,
+            NotNan => IsNan,
+            LessThan => GreaterThanOrEq,
+            LessThanOrEq => GreaterThan,
+            GreaterThan => LessThanOrEq,
+            GreaterThanOrEq => LessThan,
+            Eq => NotEq,
+            NotEq => Eq,
+            StartsWith => NotStartsWith,
+            NotStartsWith => StartsWith,
+            In => NotIn,
+            NotIn => In,
+        }
+    }
 }
 
 impl Display for PredicateOperator {
@@ -100,5 +124,16 @@ impl Display for PredicateOperator {
             PredicateOperator::In => "IN",
             PredicateOperator::NotIn => "NOT IN",
         })
+    }
+}
+
+/// Reads what [`Display`] writes.
+impl FromStr for PredicateOperator {
+    type Err = ParseError;
+
+    fn from_str(text: &str) -> Result<PredicateOperator, ParseError> {
+        let mut all = PredicateOperator::ALL.into_iter();
+        let named = all.find(|operator| operator.to_string() == text);
+        named.ok_or_else(|| ParseError::new(text, "operator"))
     }
 }

@@ -1,8 +1,9 @@
 //! Predicates: what a projection answers, to be tested on partition values.
 
-use crate::routines::holds;
-use crate::sheet::Sheet;
-use crate::{Literal, PredicateOperator, Refusal, Transform, Type, Value};
+use crate::record::{Record, EMPTY};
+use crate::routines::meets;
+use crate::sheets::Sheet;
+use crate::{Literal, PredicateOperator, Refusal, Transform, Type, Value, ValueError};
 
 /// An operator with its literals on a partition field.
 ///
@@ -15,7 +16,8 @@ use crate::{Literal, PredicateOperator, Refusal, Transform, Type, Value};
 /// assert!(read.holds(&Literal::Int(1).into())?); // February 1970
 /// assert!(!read.holds(&Literal::Int(0).into())?); // January
 /// assert!(!read.holds(&Value::Missing)?);
-/// # Ok::<(), Box<dyn std::error::Error>>(())
+/// assert_eq!(read.to_string(), "int >= 1");
+/// # Ok::<(), weighpick::Error>(())
 /// ```
 #[derive(Clone, Debug, PartialEq, Eq, Hash)]
 pub struct Predicate {
@@ -23,9 +25,15 @@ pub struct Predicate {
 }
 
 impl Predicate {
-    /// The predicate of an answer sheet that the library wrote.
-    pub(crate) fn read(answer: &[u8]) -> Predicate {
-        let sheet = Sheet::read(answer).expect("answer sheets are proved to be well-formed");
+    /// The predicate of an answer sheet that the library wrote; it is proved to be well-formed.
+    #[inline]
+    pub(crate) fn answered(answer: &[u8]) -> Predicate {
+        let sheet = Sheet::answered(answer);
+        Predicate { sheet }
+    }
+
+    /// The predicate of a sheet under Identity that has as many literals as its operator takes.
+    pub(crate) fn from_sheet(sheet: Sheet) -> Predicate {
         Predicate { sheet }
     }
 
@@ -59,11 +67,15 @@ impl Predicate {
         self.sheet.literals()
     }
 
-    /// Whether it accepts a partition value. A value of another type is [`Refusal::Malformed`].
-    pub fn holds(&self, partition_value: &Value) -> Result<bool, Refusal> {
-        holds(
-            self.as_bytes(),
-            &partition_value.to_record(self.column_type())?,
-        )
+    /// Whether it accepts a partition value.
+    pub fn holds(&self, partition_value: &Value) -> Result<bool, ValueError> {
+        let mut record = EMPTY;
+        partition_value.put(self.column_type(), &mut record)?;
+        Ok(self.holds_record(&record))
+    }
+
+    /// Whether it accepts the partition value in a record that [`Value::to_record`] wrote for its type.
+    pub(crate) fn holds_record(&self, partition_value: &Record) -> bool {
+        meets(self.as_bytes(), partition_value)
     }
 }

@@ -32,34 +32,53 @@ const CONTENT_AT: usize = 4;
 /// The length that marks a missing value.
 const MISSING: u16 = 65535;
 
-/// What the first record of a sheet says.
-#[derive(Clone, Copy, Debug, PartialEq, Eq, Hash)]
-pub(crate) struct Head {
-    pub(crate) operator: PredicateOperator,
-    pub(crate) column_type: Type,
-    pub(crate) transform: Transform,
+/// A record of zeros, to be written to.
+pub(crate) const EMPTY: Record = [0; RECORD];
+
+/// Writes the first two words of a record. Fields that are written one by one and then read together make a processor wait, so
+/// they are put together first.
+#[inline]
+fn put_words(record: &mut Record, first: u64, second: u64) {
+    record[..8].copy_from_slice(&first.to_le_bytes());
+    record[8..16].copy_from_slice(&second.to_le_bytes());
 }
 
-impl Head {
-    /// Its record, with next 0.
-    pub(crate) fn record(self) -> Record {
-        let mut record = [0; RECORD];
-        record[2..4].copy_from_slice(&self.operator.number().to_le_bytes());
-        record[4] = self.column_type.number();
-        record[5] = self.transform.number();
-        record[8..12].copy_from_slice(&self.transform.width().to_le_bytes());
-        record
-    }
+/// The head of a sheet, its first record.
+#[inline]
+pub(crate) fn head_record(
+    next: u16,
+    operator: PredicateOperator,
+    column_type: Type,
+    transform: Transform,
+) -> Record {
+    let numbers = u64::from(operator.number()) << 16
+        | u64::from(column_type.number()) << 32
+        | u64::from(transform.number()) << 40;
+    let mut record = EMPTY;
+    let width = u64::from(transform.width());
+    put_words(&mut record, u64::from(next) | numbers, width);
+    record
+}
 
-    /// The head in a record; none where a number is not listed.
-    pub(crate) fn read(record: &Record) -> Option<Head> {
-        let width = u32::from_le_bytes([record[8], record[9], record[10], record[11]]);
-        Some(Head {
-            operator: PredicateOperator::from_number(word(record, 2))?,
-            column_type: Type::from_number(record[4])?,
-            transform: Transform::from_numbers(record[5], width)?,
-        })
-    }
+/// The operator that a head names, if it is listed.
+pub(crate) fn operator(head: &Record) -> Option<PredicateOperator> {
+    PredicateOperator::from_number(word(head, 2))
+}
+
+/// Puts another operator into a head.
+pub(crate) fn set_operator(head: &mut Record, operator: PredicateOperator) {
+    head[2..4].copy_from_slice(&operator.number().to_le_bytes());
+}
+
+/// The column type that a head names, if it is listed.
+pub(crate) fn column_type(head: &Record) -> Option<Type> {
+    Type::from_number(head[4])
+}
+
+/// The transform that a head names, if it is listed and may have the head's width.
+pub(crate) fn transform(head: &Record) -> Option<Transform> {
+    let width = u32::from_le_bytes([head[8], head[9], head[10], head[11]]);
+    Transform::from_numbers(head[5], width)
 }
 
 /// The two bytes at `at`.
@@ -67,15 +86,32 @@ fn word(record: &Record, at: usize) -> u16 {
     u16::from_le_bytes([record[at], record[at + 1]])
 }
 
-/// The record of a literal or value, with next 0; none where the content is too long.
-pub(crate) fn content_record(content: &[u8]) -> Option<Record> {
-    let mut record = [0; RECORD];
-    let length = u16::try_from(content.len()).ok()?;
+/// Writes a number of 4 bytes into an empty record.
+#[inline]
+pub(crate) fn put_int(record: &mut Record, number: i32) {
+    put_words(record, 4 << 16 | u64::from(number as u32) << 32, 0);
+}
+
+/// Writes a number of 8 bytes into an empty record.
+#[inline]
+pub(crate) fn put_long(record: &mut Record, number: i64) {
+    let bits = number as u64;
+    put_words(record, 8 << 16 | bits << 32, bits >> 32);
+}
+
+/// Writes a content into an empty record; none where it is too long.
+#[inline]
+pub(crate) fn put_content(record: &mut Record, content: &[u8]) -> Option<()> {
+    let place = record[CONTENT_AT..].get_mut(..content.len())?;
+    place.copy_from_slice(content);
+    // At most CONTENT, so the number fits.
+    put_length(record, content.len() as u16);
+    Some(())
+}
+
+/// Writes the length of a literal or value.
+fn put_length(record: &mut Record, length: u16) {
     record[2..4].copy_from_slice(&length.to_le_bytes());
-    record[CONTENT_AT..]
-        .get_mut(..content.len())?
-        .copy_from_slice(content);
-    Some(record)
 }
 
 /// The content of a literal or value; none where its length is that of a missing value, or too long.
@@ -83,11 +119,9 @@ pub(crate) fn content(record: &Record) -> Option<&[u8]> {
     record[CONTENT_AT..].get(..usize::from(word(record, 2)))
 }
 
-/// The record of a missing value.
-pub(crate) fn missing_record() -> Record {
-    let mut record = [0; RECORD];
-    record[2..4].copy_from_slice(&MISSING.to_le_bytes());
-    record
+/// Marks an empty record as a missing value.
+pub(crate) fn put_missing(record: &mut Record) {
+    put_length(record, MISSING);
 }
 
 /// The number of the record that follows on the chain; 0 ends it.

@@ -10,7 +10,7 @@ use std::fmt::{self, Display, Formatter};
 ///
 /// // A time of day has no year.
 /// let refused = Transform::Year.transform_literal(Type::Time, &Literal::Time(0).into());
-/// assert_eq!(refused, Err(Refusal::NoResultType));
+/// assert_eq!(refused, Err(Refusal::NoResultType.into()));
 /// assert_eq!(Refusal::NoResultType.number(), 5);
 /// ```
 #[derive(Clone, Copy, Debug, PartialEq, Eq, Hash)]

@@ -1,6 +1,7 @@
 //! The four routines over bytes, with the answer numbers as results.
 
-use crate::ffi::{self, Answer};
+use crate::ffi::{self, Question, Setting};
+use crate::record::Record;
 use crate::{Refusal, Transform, Type};
 
 /// Document 01's answer 0: there is a result, or the value holds.
@@ -15,13 +16,36 @@ fn refusal(number: u32) -> Refusal {
         .unwrap_or_else(|| unreachable!("the library gives no answer {number} here"))
 }
 
-/// A projection's answer: the answer sheet at the start of the buffer, none, or a refusal.
-fn projected(answer: Answer, out: &[u8]) -> Result<Option<&[u8]>, Refusal> {
-    match answer.number {
-        RESULT => Ok(Some(&out[..answer.count])),
+/// A projection's answer by its number: what is made of the answer sheet, none, or a refusal.
+#[inline]
+fn projected<T>(number: u32, result: impl FnOnce() -> T) -> Result<Option<T>, Refusal> {
+    match number {
+        RESULT => Ok(Some(result())),
         NONE => Ok(None),
         number => Err(refusal(number)),
     }
+}
+
+/// A projection into a buffer that goes with the call: what `take` makes of the answer sheet, none, or a refusal.
+#[inline]
+pub(crate) fn project<T>(
+    question: Question,
+    sheet: &[u8],
+    take: impl FnOnce(&[u8]) -> T,
+) -> Result<Option<T>, Refusal> {
+    ffi::project(question, sheet, |number, written| {
+        projected(number, || take(written))
+    })
+}
+
+/// A projection into a lent buffer.
+fn ask_into<'a>(
+    question: Question,
+    sheet: &[u8],
+    out: &'a mut [u8],
+) -> Result<Option<&'a [u8]>, Refusal> {
+    let answer = ffi::project_into(question, sheet, out);
+    projected(answer.number, || &out[..answer.count])
 }
 
 /// The inclusive projection of a sheet. The answer sheet is written to the start of `out` and handed back; without one, `out` is
@@ -42,7 +66,7 @@ fn projected(answer: Answer, out: &[u8]) -> Result<Option<&[u8]>, Refusal> {
 /// # Ok::<(), Box<dyn std::error::Error>>(())
 /// ```
 pub fn project_into<'a>(sheet: &[u8], out: &'a mut [u8]) -> Result<Option<&'a [u8]>, Refusal> {
-    projected(ffi::project(sheet, out), out)
+    ask_into(Question::Inclusive, sheet, out)
 }
 
 /// The strict projection of a sheet; the rest is as for [`project_into`].
@@ -50,7 +74,32 @@ pub fn strict_project_into<'a>(
     sheet: &[u8],
     out: &'a mut [u8],
 ) -> Result<Option<&'a [u8]>, Refusal> {
-    projected(ffi::strict_project(sheet, out), out)
+    ask_into(Question::Strict, sheet, out)
+}
+
+/// A transform and the type of the column that it splits, in document 01's numbers.
+fn setting(transform: Transform, column_type: Type) -> Setting {
+    Setting {
+        column_type: column_type.number(),
+        transform: transform.number(),
+        width: transform.width(),
+    }
+}
+
+/// The transform of a value record into a buffer that goes with the call: what `take` makes of the partition value's record, or a
+/// refusal.
+#[inline]
+pub(crate) fn transform<T, E: From<Refusal>>(
+    transform: Transform,
+    column_type: Type,
+    value: &[u8],
+    take: impl FnOnce(&[u8]) -> Result<T, E>,
+) -> Result<T, E> {
+    let setting = setting(transform, column_type);
+    ffi::transform(setting, value, |number, written| match number {
+        RESULT => take(written),
+        number => Err(refusal(number).into()),
+    })
 }
 
 /// The transform of a value record. The partition value's record is written to the start of `out` and handed back; after a refusal
@@ -61,8 +110,7 @@ pub fn transform_into<'a>(
     value: &[u8],
     out: &'a mut [u8],
 ) -> Result<&'a [u8], Refusal> {
-    let (number, width) = (transform.number(), transform.width());
-    let answer = ffi::transform(column_type.number(), number, width, value, out);
+    let answer = ffi::transform_into(setting(transform, column_type), value, out);
     match answer.number {
         RESULT => Ok(&out[..answer.count]),
         number => Err(refusal(number)),
@@ -77,4 +125,9 @@ pub fn holds(sheet: &[u8], value: &[u8]) -> Result<bool, Refusal> {
         NONE => Ok(false),
         number => Err(refusal(number)),
     }
+}
+
+/// The holds-test of a sheet and a value that this crate wrote, of one type: neither is refused.
+pub(crate) fn meets(sheet: &[u8], value: &Record) -> bool {
+    holds(sheet, value).expect("a sheet and a value of its type are well-formed")
 }

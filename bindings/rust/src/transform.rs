@@ -1,10 +1,11 @@
 //! The transforms that split tables, and the transform of one value.
 
 use std::fmt::{self, Display, Formatter};
+use std::str::FromStr;
 
-use crate::record::VALUE_BUFFER;
-use crate::routines::transform_into;
-use crate::{Refusal, Type, Value};
+use crate::record::EMPTY;
+use crate::routines::transform;
+use crate::{Error, ParseError, Refusal, Type, Value};
 
 /// How a column's value becomes a partition value.
 #[derive(Clone, Copy, Debug, PartialEq, Eq, Hash)]
@@ -27,6 +28,17 @@ pub enum Transform {
     /// A transform that this version does not know.
     Unknown,
 }
+
+/// All but Truncate.
+const WITHOUT_WIDTH: [Transform; 7] = [
+    Transform::Identity,
+    Transform::Year,
+    Transform::Month,
+    Transform::Day,
+    Transform::Hour,
+    Transform::Void,
+    Transform::Unknown,
+];
 
 impl Transform {
     /// Its number in a sheet.
@@ -104,13 +116,15 @@ impl Transform {
     /// let moment = Literal::Timestamp(-86_401_000_000).into();
     /// let day = Transform::Day.transform_literal(Type::Timestamp, &moment)?;
     /// assert_eq!(day, Literal::Date(-2).into());
-    /// # Ok::<(), weighpick::Refusal>(())
+    /// # Ok::<(), weighpick::Error>(())
     /// ```
-    pub fn transform_literal(self, column_type: Type, value: &Value) -> Result<Value, Refusal> {
-        let record = value.to_record(column_type)?;
-        let mut out = [0; VALUE_BUFFER];
-        transform_into(self, column_type, &record, &mut out)?;
-        Ok(Value::read(self.result_type(column_type)?, &out))
+    pub fn transform_literal(self, column_type: Type, value: &Value) -> Result<Value, Error> {
+        let mut record = EMPTY;
+        value.put(column_type, &mut record)?;
+        let result_type = self.result_type(column_type);
+        transform(self, column_type, &record, |partition| {
+            Ok(Value::read(result_type?, partition))
+        })
     }
 }
 
@@ -127,5 +141,21 @@ impl Display for Transform {
             Transform::Void => f.write_str("void"),
             Transform::Unknown => f.write_str("unknown"),
         }
+    }
+}
+
+/// Reads what [`Display`] writes.
+impl FromStr for Transform {
+    type Err = ParseError;
+
+    fn from_str(text: &str) -> Result<Transform, ParseError> {
+        let truncate = text
+            .strip_prefix("truncate[")
+            .and_then(|t| t.strip_suffix(']'));
+        if let Some(Ok(width)) = truncate.map(str::parse) {
+            return Ok(Transform::Truncate(width));
+        }
+        let named = WITHOUT_WIDTH.into_iter().find(|t| t.to_string() == text);
+        named.ok_or_else(|| ParseError::new(text, "transform"))
     }
 }

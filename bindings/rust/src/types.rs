@@ -1,6 +1,9 @@
 //! The ten column types of document 01.
 
 use std::fmt::{self, Display, Formatter};
+use std::str::FromStr;
+
+use crate::ParseError;
 
 /// The type of a column, of its literals and of its values.
 #[derive(Clone, Copy, Debug, PartialEq, Eq, Hash)]
@@ -29,7 +32,7 @@ pub enum Type {
 }
 
 impl Type {
-    /// All types, by number.
+    /// All types, by number; the first has number 1.
     pub const ALL: [Type; 10] = [
         Type::Int,
         Type::Long,
@@ -50,7 +53,8 @@ impl Type {
 
     /// The type with a number of document 01's list.
     pub fn from_number(number: u8) -> Option<Type> {
-        Type::ALL.into_iter().find(|t| t.number() == number)
+        let before = usize::from(number).checked_sub(1)?;
+        Type::ALL.get(before).copied()
     }
 }
 
@@ -69,5 +73,15 @@ impl Display for Type {
             Type::String => "string",
             Type::Binary => "binary",
         })
+    }
+}
+
+/// Reads what [`Display`] writes.
+impl FromStr for Type {
+    type Err = ParseError;
+
+    fn from_str(text: &str) -> Result<Type, ParseError> {
+        let named = Type::ALL.into_iter().find(|t| t.to_string() == text);
+        named.ok_or_else(|| ParseError::new(text, "type"))
     }
 }

@@ -32,7 +32,10 @@ fn c_name(variant: impl std::fmt::Debug) -> String {
 
 #[test]
 fn version() {
-    let line = format!("#define WEIGHPICK_VERSION \"{}\"", env!("CARGO_PKG_VERSION"));
+    let line = format!(
+        "#define WEIGHPICK_VERSION \"{}\"",
+        env!("CARGO_PKG_VERSION")
+    );
     assert!(HEADER.lines().any(|l| l == line), "{line}");
 }
 

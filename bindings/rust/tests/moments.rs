@@ -3,11 +3,11 @@
 mod support;
 
 use support::said;
-use weighpick::{Leaf, Literal, PredicateOperator, Refusal, Transform, Value};
+use weighpick::{Error, Leaf, Literal, PredicateOperator, Refusal, Transform, Value};
 use Literal::{Date, Int, Timestamp, Timestamptz};
 
 /// The partition value of a present value.
-fn partition(transform: Transform, value: Literal) -> Result<Literal, Refusal> {
+fn partition(transform: Transform, value: Literal) -> Result<Literal, Error> {
     match transform.transform_literal(value.column_type(), &Value::Present(value))? {
         Value::Present(partition) => Ok(partition),
         Value::Missing => panic!("a present value has a present partition value here"),
@@ -34,7 +34,7 @@ fn truncate() {
     let widest = Transform::Truncate(2_147_483_647);
     assert_eq!(partition(widest, Int(0)), Ok(Int(0)));
     let wider = Transform::Truncate(2_147_483_648);
-    assert_eq!(partition(wider, Int(0)), Err(Refusal::DataInvalid));
+    assert_eq!(partition(wider, Int(0)), Err(Refusal::DataInvalid.into()));
 }
 
 #[test]
@@ -51,7 +51,10 @@ fn hours() {
     let hour = |micros| partition(Transform::Hour, Timestamp(micros));
     assert_eq!(hour(-1), Ok(Int(-1)));
     assert_eq!(hour(7_730_941_132_799_999_999), Ok(Int(2_147_483_647)));
-    assert_eq!(hour(7_730_941_132_800_000_000), Err(Refusal::Overflow));
+    assert_eq!(
+        hour(7_730_941_132_800_000_000),
+        Err(Refusal::Overflow.into())
+    );
 }
 
 #[test]
@@ -61,9 +64,9 @@ fn months_and_years() {
     let year = |value| partition(Transform::Year, value);
     assert_eq!(year(Timestamp(8_210_266_876_799_999_999)), Ok(Int(260_172)));
     let past = Timestamp(8_210_266_876_800_000_000);
-    assert_eq!(year(past), Err(Refusal::DataInvalid));
+    assert_eq!(year(past), Err(Refusal::DataInvalid.into()));
     assert_eq!(year(Date(95_026_236)), Ok(Int(260_172)));
-    assert_eq!(year(Date(95_026_237)), Err(Refusal::Overflow));
+    assert_eq!(year(Date(95_026_237)), Err(Refusal::Overflow.into()));
 }
 
 #[test]

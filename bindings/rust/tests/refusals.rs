@@ -4,8 +4,8 @@ mod support;
 
 use support::{both, BEFORE};
 use weighpick::sheet::{
-    holds, project_into, strict_project_into, transform_into, Record, CONTENT, LARGEST_SHEET,
-    RECORD, SHEET_BUFFER, VALUE_BUFFER,
+    holds, project_into, strict_project_into, transform_into, Record, LARGEST_SHEET, RECORD,
+    SHEET_BUFFER, VALUE_BUFFER,
 };
 use weighpick::{Leaf, Literal, PredicateOperator, Refusal, Transform, Type, Value};
 
@@ -100,12 +100,6 @@ fn malformed_value() {
         assert_eq!(refused, Some(Refusal::Malformed));
         assert_eq!(holds(&sample(), malformed), Err(Refusal::Malformed));
     }
-    let other_type = Value::from(Literal::Date(1));
-    let refused = Transform::Identity.transform_literal(Type::Int, &other_type);
-    assert_eq!(refused, Err(Refusal::Malformed));
-    let too_long = Value::from(Literal::binary([0; CONTENT + 1]));
-    let refused = Transform::Identity.transform_literal(Type::Binary, &too_long);
-    assert_eq!(refused, Err(Refusal::Malformed));
 }
 
 #[test]

@@ -2,7 +2,9 @@
 
 use std::str::FromStr;
 
-use weighpick::{Leaf, Literal, Predicate, PredicateOperator, Refusal, Transform, Type};
+use weighpick::{
+    Leaf, Literal, ParseError, Predicate, PredicateOperator, Refusal, Transform, Type,
+};
 
 #[cfg(test)]
 mod tests;
@@ -10,10 +12,19 @@ mod tests;
 /// How an empty string or binary is printed, and an empty binary read.
 const EMPTY: &str = "-";
 
+/// Whether the words ask what may be asked: the first is `-h` or `--help`, which is no type.
+pub fn ask_for_help(words: &[impl AsRef<str>]) -> bool {
+    let first = words.first().map(AsRef::as_ref);
+    matches!(first, Some("-h" | "--help"))
+}
+
 /// The leaf that the words say, or what is wrong with them.
 pub fn leaf(words: &[impl AsRef<str>]) -> Result<Leaf, String> {
     let mut words = words.iter().map(AsRef::as_ref);
-    let column_type = column_type(take(&mut words, "type")?)?;
+    let column_type = take(&mut words, "type")?;
+    let column_type: Type = column_type
+        .parse()
+        .map_err(|wrong: ParseError| wrong.to_string())?;
     let transform = transform(&mut words)?;
     let operator = operator(take(&mut words, "operator")?)?;
     let literals: Result<Vec<Literal>, String> =
@@ -30,12 +41,6 @@ pub fn leaf(words: &[impl AsRef<str>]) -> Result<Leaf, String> {
 /// The next word.
 fn take<'a>(words: &mut impl Iterator<Item = &'a str>, what: &str) -> Result<&'a str, String> {
     words.next().ok_or_else(|| format!("the {what} is missing"))
-}
-
-/// A type by its name.
-fn column_type(word: &str) -> Result<Type, String> {
-    let named = Type::ALL.into_iter().find(|t| t.to_string() == word);
-    named.ok_or_else(|| format!("`{word}` is no type"))
 }
 
 /// A transform by its name; Truncate's width is a word of its own.

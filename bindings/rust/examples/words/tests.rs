@@ -1,6 +1,6 @@
 //! What the words say, and what is printed for them.
 
-use super::{leaf, lines};
+use super::{ask_for_help, leaf, lines};
 
 /// What is printed for the words of a command line without quotes.
 fn printed(words: &str) -> String {
@@ -89,4 +89,16 @@ fn limits_are_named() {
     assert_eq!(wrong(&long), "a literal has 61 bytes, at most 60 fit");
     let many = format!("int identity in {}", "7 ".repeat(65));
     assert_eq!(wrong(&many), "more than 64 literals");
+}
+
+#[test]
+fn help_is_asked_for_first() {
+    for (words, expected) in [
+        (&["--help"][..], true),
+        (&["-h"], true),
+        (&[], false),
+        (&["string", "identity", "=", "--help"], false),
+    ] {
+        assert_eq!(ask_for_help(words), expected, "{words:?}");
+    }
 }

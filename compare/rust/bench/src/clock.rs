@@ -1,5 +1,5 @@
 //! The time of a call, measured so that a busy machine does least harm: the processor time of this thread, many calls
-//! a round, the two sides in turn, the best round of each.
+//! a round, the sides in turn, the best round of each.
 
 use std::time::Duration;
 
@@ -18,19 +18,25 @@ unsafe extern "C" {
     fn clock_gettime(clock: i32, time: *mut Timespec) -> i32;
 }
 
-/// Nanoseconds that one pass of each side takes.
-pub fn in_turn(mut first: impl FnMut(), mut second: impl FnMut()) -> (f64, f64) {
-    let (first_passes, second_passes) = (passes(&mut first), passes(&mut second));
-    let mut best = (f64::INFINITY, f64::INFINITY);
+/// A side: one pass of the calls that are timed.
+pub type Side<'a> = Box<dyn FnMut() + 'a>;
+
+/// Nanoseconds that one pass of each side takes, where there is one.
+pub fn in_turn<const N: usize>(sides: [Option<Side>; N]) -> [Option<f64>; N] {
+    let mut sides = sides.map(|side| side.map(|mut side| (passes(&mut side), side)));
+    let mut best = [None; N];
     for _ in 0..ROUNDS {
-        best.0 = best.0.min(round(&mut first, first_passes).as_nanos() as f64 / f64::from(first_passes));
-        best.1 = best.1.min(round(&mut second, second_passes).as_nanos() as f64 / f64::from(second_passes));
+        for (best, side) in best.iter_mut().zip(&mut sides) {
+            let Some((passes, side)) = side else { continue };
+            let pass = round(side, *passes).as_nanos() as f64 / f64::from(*passes);
+            *best = Some(best.map_or(pass, |so_far: f64| so_far.min(pass)));
+        }
     }
     best
 }
 
 /// How many passes fill a round. Twice what just sufficed, so that a quick round is long enough too.
-fn passes(side: &mut impl FnMut()) -> u32 {
+fn passes(side: &mut Side) -> u32 {
     let mut passes = 1;
     while round(side, passes) < ROUND {
         passes *= 2;
@@ -38,7 +44,7 @@ fn passes(side: &mut impl FnMut()) -> u32 {
     2 * passes
 }
 
-fn round(side: &mut impl FnMut(), passes: u32) -> Duration {
+fn round(side: &mut Side, passes: u32) -> Duration {
     let start = thread_time();
     for _ in 0..passes {
         side();

@@ -17,11 +17,39 @@ const SHORT_START: usize = 3;
 const DAYS: u64 = 60 * 365;
 const MICROS: u64 = DAYS * 86_400_000_000;
 
-/// Leaves of one kind, all asked one question.
+/// What a row of the tables is about.
+pub enum Kind {
+    Projection(Projections),
+    Transform(Values),
+    /// The holds-test by the inclusive predicates of leaves.
+    Holds(Projections),
+}
+
+impl Kind {
+    pub fn name(&self) -> &str {
+        match self {
+            Kind::Projection(kind) | Kind::Holds(kind) => &kind.name,
+            Kind::Transform(kind) => &kind.name,
+        }
+    }
+
+    pub fn asked(&self) -> &'static str {
+        match self {
+            Kind::Projection(kind) if kind.question == Question::Inclusive => "inclusive",
+            Kind::Projection(_) => "strict",
+            Kind::Transform(_) => "transform",
+            Kind::Holds(_) => "holds",
+        }
+    }
+}
+
+/// Leaves of one kind, all asked one question, and a row for each whose partition value is tested.
+#[derive(Clone)]
 pub struct Projections {
     pub name: String,
     pub question: Question,
     pub leaves: Vec<Leaf>,
+    pub contents: Vec<Vec<u8>>,
 }
 
 /// Values of one kind under one transform.
@@ -73,8 +101,18 @@ const SHORT_STRING: Setting = Setting { text: "String, Truncate 4, shorter", con
 const INT_ITSELF: Setting = Setting { text: "Int, Identity", transform: transform::IDENTITY, width: 0, ..INT };
 const STRING_ITSELF: Setting = Setting { text: "String, Identity", transform: transform::IDENTITY, width: 0, ..STRING };
 
-/// The kinds of leaves, in the order of the table.
-pub fn projections() -> Vec<Projections> {
+/// All kinds, in the order of the tables.
+pub fn all() -> Vec<Kind> {
+    let projections = projections();
+    let inclusive = projections.iter().filter(|kind| kind.question == Question::Inclusive);
+    let tested: Vec<Projections> = inclusive.cloned().collect();
+    let mut kinds: Vec<Kind> = projections.into_iter().map(Kind::Projection).collect();
+    kinds.extend(transforms().into_iter().map(Kind::Transform));
+    kinds.extend(tested.into_iter().map(Kind::Holds));
+    kinds
+}
+
+fn projections() -> Vec<Projections> {
     use Question::{Inclusive, Strict};
     let mut kinds = vec![];
     let mut put = |setting, operator, questions: &[Question]| {
@@ -98,8 +136,7 @@ pub fn projections() -> Vec<Projections> {
     kinds
 }
 
-/// The kinds of values, in the order of the table.
-pub fn transforms() -> Vec<Values> {
+fn transforms() -> Vec<Values> {
     [INT, MOMENT_DAY, MOMENT_MONTH, STRING].map(values).into()
 }
 
@@ -117,7 +154,10 @@ fn projection(setting: Setting, (word, operator): (&str, u16), question: Questio
         width: setting.width,
         literals: (0..literals).map(|_| (setting.content)(&mut draw)).collect(),
     };
-    Projections { name: format!("{}: {word}", setting.text), question, leaves: (0..leaves).map(leaf).collect() }
+    let name = format!("{}: {word}", setting.text);
+    let leaves: Vec<Leaf> = (0..leaves).map(leaf).collect();
+    let contents = leaves.iter().map(|_| (setting.content)(&mut draw)).collect();
+    Projections { name, question, leaves, contents }
 }
 
 fn values(setting: Setting) -> Values {

@@ -1,63 +1,68 @@
-//! How long the crate and the port take for the same leaves, in one run: a Markdown table with nanoseconds a call and
-//! their ratio. Both answers are compared before a leaf is timed.
+//! How long the crate and the port take for the same leaves, in one run: Markdown tables with nanoseconds a call. All
+//! answers are compared before a leaf is timed.
 //!
-//! The crate gets a `BoundPredicate` that is ready and drops its result within the call. The port reads its sheet's
-//! bytes anew each call and writes into a buffer that is not cleared between calls. An argument, if there is one, picks
-//! the kinds whose name has it in it.
+//! The first table is crate and C name: the crate gets a `BoundPredicate` that is ready and drops its result within the
+//! call; the port reads its sheet's bytes anew each call and writes into a buffer that is not cleared between calls. The
+//! second table is what two callers pay, one of the crate and one of the port's Rust crate, from a leaf that is ready and
+//! from literals, and the holds-test. An argument, if there is one, picks the kinds whose name has it in it.
 
 mod clock;
 mod kinds;
+mod rust_crate;
 mod sides;
+mod tables;
+
+use std::collections::BTreeSet;
+use std::process::ExitCode;
 
 use beside::crate_side;
 use beside::leaf::{Leaf, Question, column, number, operator, transform};
 
+use kinds::Kind;
+use tables::Row;
+
 /// Laps over all kinds, so that a time in which the machine is busy does not fall on a few of them alone.
 const LAPS: usize = 5;
+/// The status of a run that was asked for a kind that is not there.
+const MISUSED: u8 = 2;
 
-fn main() {
+fn main() -> ExitCode {
     let only = std::env::args().nth(1).unwrap_or_default();
+    let kinds: Vec<Kind> = kinds::all().into_iter().filter(|kind| kind.name().contains(&only)).collect();
+    if kinds.is_empty() {
+        let names: BTreeSet<String> = kinds::all().iter().map(|kind| kind.name().to_string()).collect();
+        let names: Vec<String> = names.into_iter().collect();
+        eprintln!("bench: no kind has `{only}` in its name; the kinds are\n  {}", names.join("\n  "));
+        return ExitCode::from(MISUSED);
+    }
+    let rows = best_of_laps(&kinds);
     println!("Crate: opt-level 3, overflow checks {}. Port: as `rt staticlib` builds it.", checks());
     println!(
         "Processor time, best of {} rounds of at least {} ms, in turn, in {LAPS} laps over all kinds.",
         LAPS * clock::ROUNDS,
         clock::ROUND.as_millis()
     );
-    println!("The port's result buffer is not cleared between calls; the crate's transform functions are ready.\n");
-    println!("| kind | question | crate ns | port ns | crate / port |");
-    println!("|---|---|---:|---:|---:|");
-    for row in best_of_laps(&only) {
-        let (name, question, (crate_ns, port_ns)) = row;
-        println!("| {name} | {question} | {crate_ns:.1} | {port_ns:.1} | {:.1} |", crate_ns / port_ns);
-    }
+    println!("The C name's result buffer is not cleared between calls; the crate's transform functions are ready.");
+    println!("\n{}\n{}", tables::crate_and_port(&rows), tables::two_callers(&rows));
+    ExitCode::SUCCESS
 }
 
-/// What a row of the table says: the kind, what is asked, and nanoseconds a call for crate and port.
-type Row = (String, String, (f64, f64));
-
-/// The best of each kind over all laps.
-fn best_of_laps(only: &str) -> Vec<Row> {
-    let mut best = lap(only);
-    for _ in 1..LAPS {
-        for (row, again) in best.iter_mut().zip(lap(only)) {
-            row.2 = (row.2.0.min(again.2.0), row.2.1.min(again.2.1));
+/// The best of each kind over all laps. A line for each lap, with a point for each kind, goes to standard error.
+fn best_of_laps(kinds: &[Kind]) -> Vec<Row> {
+    let mut best: Vec<Row> = Vec::new();
+    for lap in 1..=LAPS {
+        eprint!("lap {lap} of {LAPS} ");
+        for (number, kind) in kinds.iter().enumerate() {
+            eprint!(".");
+            let row = Row::time(kind);
+            match best.get_mut(number) {
+                Some(so_far) => so_far.keep_best(&row),
+                None => best.push(row),
+            }
         }
+        eprintln!();
     }
     best
-}
-
-/// One lap: every kind once.
-fn lap(only: &str) -> Vec<Row> {
-    let mut rows = Vec::new();
-    for kind in kinds::projections().into_iter().filter(|kind| kind.name.contains(only)) {
-        let times = sides::time_projection(kind.question, &kind.leaves);
-        rows.push((kind.name.to_string(), format!("{:?}", kind.question).to_lowercase(), times));
-    }
-    for kind in kinds::transforms().into_iter().filter(|kind| kind.name.contains(only)) {
-        let times = sides::time_transform(&kind);
-        rows.push((kind.name.to_string(), "transform".to_string(), times));
-    }
-    rows
 }
 
 /// Whether the crate was built with overflow checks, by its own behaviour: the lowest Int has none below it.

@@ -1,73 +1,137 @@
-//! The calls that are timed: one pass asks the same question of each leaf (or value) of a kind, once.
+//! The calls that are timed: one pass asks the same question of each leaf (or value) of a kind, once. All sides' answers
+//! are compared before that.
 
 use std::hint::black_box;
 
-use beside::crate_side::{self, Prepared, PreparedValue};
-use beside::leaf::{Answer, Leaf, Question, SHEET_BUFFER, Transformed, VALUE_BUFFER, Value};
+use beside::crate_side::{self, Literals, Prepared, PreparedValue};
+use beside::leaf::{Answer, Leaf, Question, SHEET_BUFFER, Transformed, VALUE_BUFFER, Value, number};
 use beside::port;
 use beside::sheet::{predicate_of, sheet_of, value_of, value_record};
 
-use crate::clock::in_turn;
-use crate::kinds::Values;
+use crate::clock::{Side, in_turn};
+use crate::kinds::{Projections, Values};
+use crate::rust_crate::{self, Parts};
 
-/// Nanoseconds a call for crate and port.
-pub fn time_projection(question: Question, leaves: &[Leaf]) -> (f64, f64) {
-    let prepared: Vec<Prepared> =
-        leaves.iter().map(|l| crate_side::prepare(l).expect("a leaf of the domain")).collect();
+/// Nanoseconds a call, in the order of the sides.
+pub type Times = [Option<f64>; 5];
+
+/// The sides: the crate from what is ready and from literals, the port's C name, the port's Rust crate from what is ready
+/// and from literals.
+pub const CRATE: usize = 0;
+pub const CRATE_LITERALS: usize = 1;
+pub const C_NAME: usize = 2;
+pub const RUST: usize = 3;
+pub const RUST_LITERALS: usize = 4;
+
+/// One projection of the leaves of a kind.
+pub fn time_projection(kind: &Projections) -> Times {
+    let (question, leaves) = (kind.question, &kind.leaves);
     let sheets: Vec<Vec<u8>> = leaves.iter().map(sheet_of).collect();
     let mut out = vec![0; SHEET_BUFFER];
     for (leaf, sheet) in leaves.iter().zip(&sheets) {
-        assert_eq!(port_answer(question, sheet, &mut out), crate_side::project(question, leaf), "{leaf:?}");
+        compare_projection(question, leaf, sheet, &mut out);
     }
-    let crate_pass = || {
-        for leaf in &prepared {
-            drop(black_box(match question {
-                Question::Inclusive => black_box(leaf).project(),
-                Question::Strict => black_box(leaf).strict_project(),
-            }));
-        }
+    let prepare = |leaf: &Leaf| crate_side::prepare(leaf).expect("a leaf of the domain");
+    let prepared: Vec<Prepared> = leaves.iter().map(prepare).collect();
+    let literals = |leaf: &Leaf| Literals::new(leaf).expect("a leaf of the domain");
+    let literals: Vec<Literals> = leaves.iter().map(literals).collect();
+    let typed: Vec<weighpick::Leaf> = sheets.iter().map(|sheet| rust_crate::leaf(sheet)).collect();
+    let parts: Vec<Parts> = typed.iter().map(Parts::of).collect();
+    let project = |leaf: &Prepared| match question {
+        Question::Inclusive => leaf.project(),
+        Question::Strict => leaf.strict_project(),
     };
-    let port_pass = || {
-        for sheet in &sheets {
-            black_box(port::project(question, black_box(sheet), black_box(&mut out)));
-        }
-    };
-    a_call(in_turn(crate_pass, port_pass), leaves.len())
+    let times = in_turn([
+        pass(&prepared, project),
+        pass(&literals, |leaf| project(&leaf.bound())),
+        pass(&sheets, |sheet| port::project(question, sheet, black_box(&mut out))),
+        pass(&typed, |leaf| rust_crate::project(question, leaf)),
+        pass(&parts, |parts| rust_crate::project(question, &parts.leaf())),
+    ]);
+    a_call(times, leaves.len())
 }
 
-/// Nanoseconds a call for crate and port; the crate's transform function is made beforehand.
-pub fn time_transform(kind: &Values) -> (f64, f64) {
+/// The holds-test of a partition value by the inclusive predicate of each leaf of a kind. The crate's published files have
+/// none.
+pub fn time_holds(kind: &Projections) -> Times {
+    let mut asked = Vec::new();
+    let mut out = vec![0; SHEET_BUFFER];
+    for (leaf, content) in kind.leaves.iter().zip(&kind.contents) {
+        let (_, count) = port::project(Question::Inclusive, &sheet_of(leaf), &mut out);
+        let mut partition = [0; VALUE_BUFFER];
+        let row = value_record(&Value::Present(content.clone()));
+        let (answer, _) = port::transform(leaf.column, leaf.transform, leaf.width, &row, &mut partition);
+        assert_eq!(answer, number::WRITTEN, "{}: a row has a partition value", kind.name);
+        asked.push((out[..count as usize].to_vec(), partition));
+    }
+    let typed: Vec<_> = asked.iter().map(|(sheet, partition)| rust_crate::test(sheet, partition)).collect();
+    for ((sheet, record), (predicate, value)) in asked.iter().zip(&typed) {
+        assert_eq!(port::holds(sheet, record) == number::WRITTEN, predicate.holds(value) == Ok(true), "{}", kind.name);
+    }
+    let times = in_turn([
+        None,
+        None,
+        pass(&asked, |(sheet, record)| port::holds(sheet, record)),
+        pass(&typed, |(predicate, value)| predicate.holds(value)),
+        None,
+    ]);
+    a_call(times, asked.len())
+}
+
+/// The transform of the values of a kind. What is ready is the crate's transform function; its other side makes it anew.
+pub fn time_transform(kind: &Values) -> Times {
     let (column, transform, width) = (kind.column, kind.transform, kind.width);
     let prepare = |c: &Vec<u8>| PreparedValue::new(column, transform, width, c).expect("a value of the domain");
     let prepared: Vec<PreparedValue> = kind.contents.iter().map(prepare).collect();
     let values: Vec<Value> = kind.contents.iter().map(|c| Value::Present(c.clone())).collect();
     let records: Vec<_> = values.iter().map(value_record).collect();
+    let (typed_column, typed_transform) = rust_crate::setting(column, transform, width);
+    let typed: Vec<_> = records.iter().map(|record| rust_crate::value(typed_column, record)).collect();
     let mut out = [0; VALUE_BUFFER];
-    for (value, record) in values.iter().zip(&records) {
+    for ((value, record), typed) in values.iter().zip(&records).zip(&typed) {
         let (number, count) = port::transform(column, transform, width, record, &mut out);
         let answer = Transformed { number, value: value_of(&out[..count as usize]) };
         assert_eq!(answer, crate_side::transform(column, transform, width, value), "{}: {value:?}", kind.name);
+        let again = typed_transform.transform_literal(typed_column, typed).expect("a value of the domain");
+        let result = typed_transform.result_type(typed_column).expect("a valid pair");
+        assert_eq!(again.to_record(result).expect("of the result type"), out, "{}: {value:?}", kind.name);
     }
-    let crate_pass = || {
-        for value in &prepared {
-            drop(black_box(black_box(value).transform_literal()));
-        }
-    };
-    let port_pass = || {
-        for record in &records {
+    let times = in_turn([
+        pass(&prepared, PreparedValue::transform_literal),
+        pass(&prepared, PreparedValue::transform_anew),
+        pass(&records, |record| {
             let (column, transform, width) = black_box((column, transform, width));
-            black_box(port::transform(column, transform, width, black_box(record), black_box(&mut out)));
-        }
-    };
-    a_call(in_turn(crate_pass, port_pass), records.len())
+            port::transform(column, transform, width, record, black_box(&mut out))
+        }),
+        pass(&typed, |value| {
+            let (transform, column) = black_box((typed_transform, typed_column));
+            transform.transform_literal(column, value)
+        }),
+        None,
+    ]);
+    a_call(times, records.len())
 }
 
-fn port_answer(question: Question, sheet: &[u8], out: &mut [u8]) -> Answer {
+/// A pass: the call for each input, once, with its result dropped.
+fn pass<'a, T, R>(inputs: &'a [T], mut call: impl FnMut(&T) -> R + 'a) -> Option<Side<'a>> {
+    Some(Box::new(move || {
+        for input in inputs {
+            black_box(&call(black_box(input)));
+        }
+    }))
+}
+
+/// The three sides give the same answer.
+fn compare_projection(question: Question, leaf: &Leaf, sheet: &[u8], out: &mut [u8]) {
     let (number, count) = port::project(question, sheet, out);
-    Answer { number, predicate: predicate_of(&out[..count as usize]) }
+    let written = &out[..count as usize];
+    let answer = Answer { number, predicate: predicate_of(written) };
+    assert_eq!(answer, crate_side::project(question, leaf), "{leaf:?}");
+    let typed = rust_crate::project(question, &rust_crate::leaf(sheet)).expect("no refusal");
+    assert_eq!(typed.expect("a predicate").as_bytes(), written, "{leaf:?}");
 }
 
 /// From the time of a pass to the time of one call of it.
-fn a_call(pass: (f64, f64), calls: usize) -> (f64, f64) {
-    (pass.0 / calls as f64, pass.1 / calls as f64)
+fn a_call(pass: Times, calls: usize) -> Times {
+    pass.map(|side| side.map(|ns| ns / calls as f64))
 }

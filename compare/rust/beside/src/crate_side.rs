@@ -9,7 +9,7 @@ use std::cell::Cell;
 use std::panic::{AssertUnwindSafe, catch_unwind};
 use std::sync::Once;
 
-use iceberg::expr::{BoundPredicate, Predicate};
+use iceberg::expr::{BoundPredicate, Predicate, PredicateOperator};
 use iceberg::spec::{Datum, Transform, Type};
 use iceberg::transform::{BoxedTransformFunction, create_transform_function};
 
@@ -96,8 +96,32 @@ impl Prepared {
     }
 }
 
+/// A leaf's literals as the crate's, with what they are asked; the bound predicate is built by `bound`, without what
+/// `Predicate::bind` does beside it.
+pub struct Literals {
+    operator: PredicateOperator,
+    column: u8,
+    transform: Transform,
+    literals: Vec<Datum>,
+    result: u8,
+}
+
+impl Literals {
+    /// The literals of a leaf; none where `project` would answer 3, 4 or 5.
+    pub fn new(leaf: &Leaf) -> Option<Literals> {
+        literals_of(leaf).ok()
+    }
+
+    #[inline]
+    pub fn bound(&self) -> Prepared {
+        let predicate = bound(self.operator, self.column, self.literals.clone());
+        Prepared { transform: self.transform, predicate, result: self.result }
+    }
+}
+
 /// A value and its transform as the crate takes them, built beforehand.
 pub struct PreparedValue {
+    transform: Transform,
     function: BoxedTransformFunction,
     datum: Datum,
 }
@@ -107,25 +131,36 @@ impl PreparedValue {
     pub fn new(column: u8, transform: u8, width: u32, content: &[u8]) -> Result<PreparedValue, u32> {
         let datum = datum_of(column, content)?;
         let function = function_of(column, transform, width)?;
-        Ok(PreparedValue { function, datum })
+        let transform = transform_of(transform, width).ok_or(number::MALFORMED)?;
+        Ok(PreparedValue { transform, function, datum })
     }
 
     #[inline]
     pub fn transform_literal(&self) -> iceberg::Result<Option<Datum>> {
         self.function.transform_literal(&self.datum)
     }
+
+    /// The same with the transform's function made anew.
+    #[inline]
+    pub fn transform_anew(&self) -> iceberg::Result<Option<Datum>> {
+        create_transform_function(&self.transform)?.transform_literal(&self.datum)
+    }
 }
 
 fn prepared(leaf: &Leaf) -> Result<Prepared, u32> {
+    literals_of(leaf).map(|literals| literals.bound())
+}
+
+fn literals_of(leaf: &Leaf) -> Result<Literals, u32> {
     if !leaf.is_well_formed() {
         return Err(number::MALFORMED);
     }
     let operator = operator_of(leaf.operator).ok_or(number::MALFORMED)?;
     let transform = transform_of(leaf.transform, leaf.width).ok_or(number::MALFORMED)?;
     let literals: Result<Vec<Datum>, u32> = leaf.literals.iter().map(|c| datum_of(leaf.column, c)).collect();
-    let predicate = bound(operator, leaf.column, literals?);
+    let literals = literals?;
     let result = result_column(leaf.column, leaf.transform, leaf.width).ok_or(number::NO_RESULT_TYPE)?;
-    Ok(Prepared { transform, predicate, result })
+    Ok(Literals { operator, column: leaf.column, transform, literals, result })
 }
 
 /// The transform's function, or the number that refuses it: 5 from `result_type`, then Unknown's 7.

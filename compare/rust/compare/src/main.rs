@@ -97,9 +97,10 @@ fn main() -> ExitCode {
 fn run_every(comparison: &mut Comparison) {
     for (name, part) in every::PARTS.into_iter().chain(every_sheet::PARTS) {
         let (start, before) = (Instant::now(), comparison.tally.answers());
+        eprint!("{name}: ");
         part(comparison);
         let answers = comparison.tally.answers() - before;
-        eprintln!("{name}: {answers} answers in {:.1} s", start.elapsed().as_secs_f32());
+        eprintln!("{answers} answers in {:.1} s", start.elapsed().as_secs_f32());
     }
 }
 

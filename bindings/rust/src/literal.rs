@@ -1,0 +1,116 @@
+//! Literals: what leaves and predicates compare with.
+
+use crate::record::{put_content, put_int, put_long, Record};
+use crate::{Type, ValueError};
+
+/// A literal of a leaf or predicate, or a present value, with its type.
+///
+/// Its text is the type and the content, and is read back:
+///
+/// ```
+/// use weighpick::{Literal, Type};
+///
+/// assert_eq!(Literal::from("ab12").column_type(), Type::String);
+/// assert_eq!(Literal::Date(31).to_string(), "date 31");
+/// assert_eq!(Literal::from("ab12").to_string(), "string \"ab12\"");
+/// assert_eq!("binary 0x00ff".parse(), Ok(Literal::binary([0, 255])));
+/// ```
+#[derive(Clone, Debug, PartialEq, Eq, Hash)]
+pub enum Literal {
+    /// 32 bits, signed.
+    Int(i32),
+    /// 64 bits, signed.
+    Long(i64),
+    /// Days from 1970-01-01.
+    Date(i32),
+    /// Microseconds from midnight.
+    Time(i64),
+    /// Microseconds from 1970-01-01, without a time zone.
+    Timestamp(i64),
+    /// Microseconds from 1970-01-01, with a time zone.
+    Timestamptz(i64),
+    /// Nanoseconds from 1970-01-01, without a time zone.
+    TimestampNs(i64),
+    /// Nanoseconds from 1970-01-01, with a time zone.
+    TimestamptzNs(i64),
+    /// At most [`CONTENT`](crate::sheet::CONTENT) bytes of UTF-8.
+    String(String),
+    /// At most [`CONTENT`](crate::sheet::CONTENT) bytes.
+    Binary(Vec<u8>),
+}
+
+impl Literal {
+    /// A String.
+    pub fn string(text: impl Into<String>) -> Literal {
+        Literal::String(text.into())
+    }
+
+    /// A Binary.
+    pub fn binary(bytes: impl Into<Vec<u8>>) -> Literal {
+        Literal::Binary(bytes.into())
+    }
+
+    /// Its type.
+    pub fn column_type(&self) -> Type {
+        match self {
+            Literal::Int(_) => Type::Int,
+            Literal::Long(_) => Type::Long,
+            Literal::Date(_) => Type::Date,
+            Literal::Time(_) => Type::Time,
+            Literal::Timestamp(_) => Type::Timestamp,
+            Literal::Timestamptz(_) => Type::Timestamptz,
+            Literal::TimestampNs(_) => Type::TimestampNs,
+            Literal::TimestamptzNs(_) => Type::TimestamptzNs,
+            Literal::String(_) => Type::String,
+            Literal::Binary(_) => Type::Binary,
+        }
+    }
+
+    /// Writes it into an empty record of a column of a type.
+    #[inline]
+    pub(crate) fn put(&self, column_type: Type, record: &mut Record) -> Result<(), ValueError> {
+        if self.column_type() != column_type {
+            return Err(ValueError::WrongType(column_type, self.column_type()));
+        }
+        let mut bytes =
+            |content: &[u8]| put_content(record, content).ok_or(ValueError::TooLong(content.len()));
+        match self {
+            Literal::Int(v) | Literal::Date(v) => put_int(record, *v),
+            Literal::Long(v)
+            | Literal::Time(v)
+            | Literal::Timestamp(v)
+            | Literal::Timestamptz(v)
+            | Literal::TimestampNs(v)
+            | Literal::TimestamptzNs(v) => put_long(record, *v),
+            Literal::String(text) => bytes(text.as_bytes())?,
+            Literal::Binary(content) => bytes(content)?,
+        }
+        Ok(())
+    }
+
+    /// The literal of a type with this content; none where the content is not of the type.
+    #[inline]
+    pub(crate) fn from_content(column_type: Type, content: &[u8]) -> Option<Literal> {
+        let int = || Some(i32::from_le_bytes(content.try_into().ok()?));
+        let long = || Some(i64::from_le_bytes(content.try_into().ok()?));
+        Some(match column_type {
+            Type::Int => Literal::Int(int()?),
+            Type::Long => Literal::Long(long()?),
+            Type::Date => Literal::Date(int()?),
+            Type::Time => Literal::Time(long()?),
+            Type::Timestamp => Literal::Timestamp(long()?),
+            Type::Timestamptz => Literal::Timestamptz(long()?),
+            Type::TimestampNs => Literal::TimestampNs(long()?),
+            Type::TimestamptzNs => Literal::TimestamptzNs(long()?),
+            Type::String => Literal::string(std::str::from_utf8(content).ok()?),
+            Type::Binary => Literal::binary(content),
+        })
+    }
+}
+
+/// A String.
+impl From<&str> for Literal {
+    fn from(text: &str) -> Literal {
+        Literal::string(text)
+    }
+}

@@ -1,0 +1,100 @@
+//! The safe rule for a server: what is done with the file of a partition value.
+
+use crate::record::EMPTY;
+use crate::{Leaf, Predicate, Refusal, Type, Value, ValueError};
+
+/// What is done with a file, by its partition value.
+#[derive(Clone, Copy, Debug, PartialEq, Eq, Hash)]
+pub enum Pick {
+    /// No row of it meets the leaf: it is passed over.
+    Skip,
+    /// Some of its rows may meet the leaf: it is read, and each row is tested.
+    Filter,
+    /// All of its rows meet the leaf: it is read, and no row need be tested.
+    Whole,
+}
+
+/// Both projections of a leaf, asked once, to pick files by their partition values. Made by [`Leaf::picker`].
+///
+/// A file is skipped only where there is an inclusive predicate and it does not accept the partition value; it is taken whole only
+/// where there is a strict predicate and it does. So no row is lost where a projection has no predicate or was refused: then every
+/// file is read and filtered.
+///
+/// ```
+/// use weighpick::{Leaf, Literal, Pick, PredicateOperator, Transform, Value};
+///
+/// // grams < 295, in a table split by grams in steps of 10
+/// let leaf = Leaf::binary(PredicateOperator::LessThan, Transform::Truncate(10), &Literal::Int(295))?;
+/// let picker = leaf.picker();
+/// assert_eq!(picker.pick(&Literal::Int(280).into())?, Pick::Whole);
+/// assert_eq!(picker.pick(&Literal::Int(290).into())?, Pick::Filter);
+/// assert_eq!(picker.pick(&Literal::Int(300).into())?, Pick::Skip);
+/// assert_eq!(picker.pick(&Value::Missing)?, Pick::Skip);
+///
+/// // Below the lowest step there is no partition value: refused, and so nothing is passed over.
+/// let lowest = Leaf::binary(PredicateOperator::LessThan, Transform::Truncate(10), &Literal::Int(-2_147_483_640))?;
+/// assert!(lowest.project().is_err());
+/// assert_eq!(lowest.picker().pick(&Literal::Int(0).into())?, Pick::Filter);
+/// # Ok::<(), weighpick::Error>(())
+/// ```
+#[derive(Clone, Debug, PartialEq, Eq, Hash)]
+pub struct Picker {
+    /// The type of the partition values; none where the transform has no result type for the column, or is Unknown.
+    partition_type: Option<Type>,
+    inclusive: Result<Option<Predicate>, Refusal>,
+    strict: Result<Option<Predicate>, Refusal>,
+}
+
+impl Leaf {
+    /// Asks both projections, for picking files by their partition values.
+    pub fn picker(&self) -> Picker {
+        Picker {
+            partition_type: self.transform().result_type(self.column_type()).ok(),
+            inclusive: self.project(),
+            strict: self.strict_project(),
+        }
+    }
+}
+
+impl Picker {
+    /// What is done with the file of a partition value.
+    ///
+    /// Every value of the partition's type has an answer. One of another type is an error, since it is none of this table's; who
+    /// would rather read such a file than end the query writes `.unwrap_or(Pick::Filter)`. Where there is no such type, as under
+    /// [`Transform::Unknown`](crate::Transform::Unknown), every value is answered [`Pick::Filter`].
+    pub fn pick(&self, partition_value: &Value) -> Result<Pick, ValueError> {
+        let Some(partition_type) = self.partition_type else {
+            return Ok(Pick::Filter);
+        };
+        let mut record = EMPTY;
+        partition_value.put(partition_type, &mut record)?;
+        if let Ok(Some(inclusive)) = &self.inclusive {
+            if !inclusive.holds_record(&record) {
+                return Ok(Pick::Skip);
+            }
+        }
+        if let Ok(Some(strict)) = &self.strict {
+            if strict.holds_record(&record) {
+                return Ok(Pick::Whole);
+            }
+        }
+        Ok(Pick::Filter)
+    }
+
+    /// What [`Leaf::project`] answered.
+    pub fn inclusive(&self) -> Result<Option<&Predicate>, Refusal> {
+        answer(&self.inclusive)
+    }
+
+    /// What [`Leaf::strict_project`] answered.
+    pub fn strict(&self) -> Result<Option<&Predicate>, Refusal> {
+        answer(&self.strict)
+    }
+}
+
+fn answer(projected: &Result<Option<Predicate>, Refusal>) -> Result<Option<&Predicate>, Refusal> {
+    projected
+        .as_ref()
+        .map(Option::as_ref)
+        .map_err(|refusal| *refusal)
+}

@@ -1,0 +1,133 @@
+//! No row is lost by picking files, and a file that is taken whole has no other rows.
+
+mod support;
+
+use std::collections::BTreeMap;
+use std::ops::RangeInclusive;
+
+use support::meets::meets;
+use support::number;
+use support::sample::Random;
+use weighpick::{Leaf, Literal, Pick, PredicateOperator, Transform, Type, Value};
+
+/// Every row of a small range by its partition value, and how often each pick was made of a file that has rows.
+fn small_world(
+    column_type: Type,
+    transform: Transform,
+    rows: RangeInclusive<i64>,
+) -> BTreeMap<String, usize> {
+    let rows: Vec<Value> = rows
+        .filter_map(|v| number(column_type, v))
+        .map(Into::into)
+        .collect();
+    let mut files = BTreeMap::<String, (Value, Vec<&Value>)>::new();
+    for row in rows.iter().chain([&Value::Missing]) {
+        let value = transform
+            .transform_literal(column_type, row)
+            .expect("a small number");
+        files
+            .entry(value.to_string())
+            .or_insert((value, Vec::new()))
+            .1
+            .push(row);
+    }
+    // The literals lie at the ends of files, where answers change.
+    let ends = files
+        .values()
+        .flat_map(|(_, rows)| rows.iter().take(2).chain(rows.iter().rev().take(2)));
+    let literals: Vec<Literal> = ends
+        .filter_map(|row| match row {
+            Value::Present(literal) => Some(literal.clone()),
+            Value::Missing => None,
+        })
+        .collect();
+    let mut picks = BTreeMap::new();
+    for leaf in leaves(column_type, transform, &literals) {
+        let picker = leaf.picker();
+        for (value, rows) in files.values() {
+            let picked = picker.pick(value).expect("a value of the partition's type");
+            let met = rows.iter().filter(|row| meets(&leaf, row)).count();
+            match picked {
+                Pick::Skip => assert_eq!(met, 0, "{leaf} loses rows of {value}"),
+                Pick::Whole => assert_eq!(met, rows.len(), "{leaf} takes {value} whole"),
+                Pick::Filter => {}
+            }
+            *picks.entry(format!("{picked:?}")).or_default() += 1;
+        }
+    }
+    picks
+}
+
+/// Every leaf without a literal, every one with one of some literals, and sets of two.
+fn leaves(column_type: Type, transform: Transform, literals: &[Literal]) -> Vec<Leaf> {
+    let mut leaves = Vec::new();
+    for operator in PredicateOperator::ALL {
+        if operator.is_unary() {
+            leaves.push(Leaf::unary(operator, column_type, transform));
+        } else if operator.is_binary() {
+            leaves.extend(
+                literals
+                    .iter()
+                    .map(|l| Leaf::binary(operator, transform, l)),
+            );
+        } else {
+            let sets = literals.windows(2);
+            leaves.extend(sets.map(|set| Leaf::set(operator, column_type, transform, set)));
+        }
+    }
+    leaves
+        .into_iter()
+        .map(|leaf| leaf.expect("within the limits"))
+        .collect()
+}
+
+#[test]
+fn no_row_is_lost_in_small_worlds() {
+    let worlds = [
+        (Type::Int, Transform::Truncate(1), -6..=6),
+        (Type::Int, Transform::Truncate(3), -30..=30),
+        (Type::Long, Transform::Truncate(10), -40..=40),
+        (Type::Date, Transform::Month, -70..=70),
+        (Type::Date, Transform::Year, -400..=400),
+        (Type::Date, Transform::Day, -20..=20),
+    ];
+    for (column_type, transform, rows) in worlds {
+        let picks = small_world(column_type, transform, rows);
+        assert!(
+            ["Skip", "Filter", "Whole"]
+                .iter()
+                .all(|pick| picks.contains_key(*pick)),
+            "{picks:?}"
+        );
+    }
+    // Under Identity both projections are the leaf itself.
+    let picks = small_world(Type::Int, Transform::Identity, -6..=6);
+    assert!(picks.keys().eq(["Skip", "Whole"]), "{picks:?}");
+    // Void has no predicates.
+    let picks = small_world(Type::Int, Transform::Void, -3..=3);
+    assert!(picks.keys().eq(["Filter"]), "{picks:?}");
+}
+
+#[test]
+fn no_row_is_lost_at_the_edges() {
+    let mut random = Random::new(10);
+    let mut picks = [0; 3];
+    for _ in 0..10_000 {
+        let leaf = random.leaf();
+        let picker = leaf.picker();
+        for row in random.rows(&leaf) {
+            let value = leaf.transform().transform_literal(leaf.column_type(), &row);
+            let Ok(value) = value else { continue };
+            let picked = picker
+                .pick(&value)
+                .expect("a value of the partition's type");
+            match picked {
+                Pick::Skip => assert!(!meets(&leaf, &row), "{leaf} loses {row}"),
+                Pick::Whole => assert!(meets(&leaf, &row), "{leaf} lets {row} in"),
+                Pick::Filter => {}
+            }
+            picks[picked as usize] += 1;
+        }
+    }
+    assert!(picks.iter().all(|&picks| picks > 1000), "{picks:?}");
+}

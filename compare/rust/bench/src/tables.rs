@@ -1,0 +1,83 @@
+//! The rows that were timed, and the two tables of them.
+
+use crate::kinds::Kind;
+use crate::sides::{self, C_NAME, CRATE, CRATE_LITERALS, RUST, RUST_LITERALS, Times};
+
+/// What a row says: the kind, what is asked, and nanoseconds a call on each side.
+pub struct Row {
+    name: String,
+    asked: &'static str,
+    times: Times,
+}
+
+impl Row {
+    /// Times a kind.
+    pub fn time(kind: &Kind) -> Row {
+        let times = match kind {
+            Kind::Projection(kind) => sides::time_projection(kind),
+            Kind::Transform(kind) => sides::time_transform(kind),
+            Kind::Holds(kind) => sides::time_holds(kind),
+        };
+        Row { name: kind.name().to_string(), asked: kind.asked(), times }
+    }
+
+    /// Keeps the better time of each side.
+    pub fn keep_best(&mut self, again: &Row) {
+        for (best, again) in self.times.iter_mut().zip(again.times) {
+            *best = best.zip(again).map(|(best, again)| best.min(again));
+        }
+    }
+
+    fn head(&self) -> String {
+        format!("| {} | {} |", self.name, self.asked)
+    }
+
+    fn ns(&self, side: usize) -> String {
+        cell(self.times[side])
+    }
+
+    fn ratio(&self, a: usize, b: usize) -> String {
+        cell(self.times[a].zip(self.times[b]).map(|(a, b)| a / b))
+    }
+
+    fn above(&self, a: usize, b: usize) -> String {
+        cell(self.times[a].zip(self.times[b]).map(|(a, b)| a - b))
+    }
+}
+
+/// A number with one digit after the point; `–` for none.
+fn cell(number: Option<f64>) -> String {
+    number.map_or("–".to_string(), |number| format!("{number:.1}"))
+}
+
+/// The crate, from what is ready, and the port's C name.
+pub fn crate_and_port(rows: &[Row]) -> String {
+    let mut table = String::from("| kind | question | crate ns | port ns | crate / port |\n|---|---|---:|---:|---:|\n");
+    for row in rows.iter().filter(|row| row.times[CRATE].is_some()) {
+        let cells = [row.ns(CRATE), row.ns(C_NAME), row.ratio(CRATE, C_NAME)];
+        table += &format!("{} {} |\n", row.head(), cells.join(" | "));
+    }
+    table
+}
+
+/// What a caller of the crate and one of the port's Rust crate pay, and the C name beside them.
+pub fn two_callers(rows: &[Row]) -> String {
+    let mut table = String::from(
+        "| kind | question | crate | C name | Rust | Rust − C | crate / Rust | crate, from literals | Rust, from literals | crate / Rust |\n\
+         |---|---|---:|---:|---:|---:|---:|---:|---:|---:|\n",
+    );
+    for row in rows {
+        let cells = [
+            row.ns(CRATE),
+            row.ns(C_NAME),
+            row.ns(RUST),
+            row.above(RUST, C_NAME),
+            row.ratio(CRATE, RUST),
+            row.ns(CRATE_LITERALS),
+            row.ns(RUST_LITERALS),
+            row.ratio(CRATE_LITERALS, RUST_LITERALS),
+        ];
+        table += &format!("{} {} |\n", row.head(), cells.join(" | "));
+    }
+    table
+}
