@@ -3,7 +3,6 @@ use Prim.Native.Nat.{ℕ}
 use mathlib.Core.List.{List}
 use lib.ListN.{length}
 use Rattle.values.specs.Outcomes.{Res, ok, err, errorNumber, _>>=_, Row}
-use Rattle.values.specs.Types.{layout}
 use Rattle.values.specs.Words.{over}
 use Rattle.values.specs.declared.datatypes.PrimitiveType.{PrimitiveType}
 use Rattle.values.specs.declared.transform.Transform.{Transform}
@@ -11,9 +10,9 @@ use Rattle.partition.specs.ResultType.{resultType}
 use Rattle.expr.specs.Predicates.{Predicate}
 use Rattle.projection.specs.Steps.{Projected, some, none, mapped}
 use Rattle.projection.specs.declared.question.Question.{Question}
-use Rattle.sheet.specs.Values.{eachLiteral, readRow, byLayout, mapRow, mapLiterals}
+use Rattle.sheet.specs.Values.{eachLiteral, readRow, mapRow, mapLiterals}
 use Rattle.write.specs.Written.{valueRecord, answerSheet}
-use Rattle.answers.specs.Kinds.{Kind, numbers, byteStrings}
+use Rattle.answers.specs.Kinds.{Kind, byKind}
 use Rattle.answers.specs.declared.answer.Answer.{Answer}
 use Rattle.answers.specs.declared.answer.Answer.the-variants.{Written, NoPredicate, BufferTooSmall, Err}
 
@@ -35,15 +34,11 @@ module _ {A B : Type 0} (k : Kind A B) (column : PrimitiveType) (transform : Tra
 
 -- the answer sheet of a leaf, its literals still the contents of their records
 unfoldable pub projectedLeaf : Question → PrimitiveType → Transform → Predicate (List ℕ) → Res (Projected (List ℕ))
-projectedLeaf question column transform leaf =
-    byLayout (layout column)
-    (λ n. projected (numbers column transform n) column transform question leaf)
-    (projected (byteStrings column transform) column transform question leaf)
+projectedLeaf question column transform leaf = byKind column transform (λ A B k. projected k column transform question leaf)
 
 -- the value record of a row's partition value
 unfoldable pub transformedRow : PrimitiveType → Transform → Row (List ℕ) → Res (List ℕ)
-transformedRow column transform row =
-    byLayout (layout column) (λ n. transformed (numbers column transform n) column transform row) (transformed (byteStrings column transform) column transform row)
+transformedRow column transform row = byKind column transform (λ A B k. transformed k column transform row)
 
 -- a partition value is a result, as a predicate is
 abbrev pub asResult : Res (List ℕ) → Res (Projected (List ℕ))

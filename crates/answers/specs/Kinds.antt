@@ -11,7 +11,7 @@ use Rattle.expr.specs.Predicates.{Predicate}
 use Rattle.projection.specs.Projection.{projectNumbers, projectBytes}
 use Rattle.projection.specs.Steps.{Projected}
 use Rattle.projection.specs.declared.question.Question.{Question}
-use Rattle.sheet.specs.Values.{readNumber, readBytes}
+use Rattle.sheet.specs.Values.{readNumber, readBytes, byLayout}
 use Rattle.write.specs.Written.{numberBytes}
 
 -- a column's values are of kind A, its partition values of kind B; `write` gives the content of a partition value of the result type
@@ -38,3 +38,7 @@ module _ (column : PrimitiveType) (transform : Transform) where
     project = λ question leaf. projectBytes question column transform leaf;
     write = λ to s. s;
   }
+
+-- which kind the values of a column are, and which its partition values: chosen here, by type and transform
+abbrev pub byKind : {X : Type 0} → PrimitiveType → Transform → ((A B : Type 0) → Kind A B → X) → X
+byKind column transform by = byLayout (layout column) (λ n. by ℤ ℤ (numbers column transform n)) (by (List ℕ) (List ℕ) (byteStrings column transform))

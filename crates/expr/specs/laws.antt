@@ -1,3 +1,4 @@
 -- The laws about the definitions of `expr`.
 pub mod PredicateLaws
 pub mod HoldsLaws
+pub mod EqualityLaws

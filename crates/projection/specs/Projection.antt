@@ -34,7 +34,7 @@ inOrder compare (test (binary o l)) = test (binary o l)
 inOrder compare (test (set o ls)) = test (set o (ascending compare ls))
 
 -- 01: "101–104 pass through unchanged"
-abbrev pub through : {A : Type 0} → (Test A → Res (Projected (Test A))) → Predicate A → Res (Projected (Predicate A))
+abbrev pub through : {A B : Type 0} → (Test A → Res (Projected (Test B))) → Predicate A → Res (Projected (Predicate B))
 through step (unary o) = ok (some (unary o))
 through step (test t) = do
   q ← step t

@@ -1,8 +1,10 @@
 -- The laws about the definitions of `projection`.
 pub mod LeafDemand
-pub mod MissingLaws
+pub mod RowLaws
 pub mod StepLaws
+pub mod EqualLaws
 pub mod LiftingLaws
+pub mod MissingLaws
 pub mod NumberLaws
 pub mod ProjectionLaws
 pub mod NumberRowLaws

@@ -1,6 +1,7 @@
 -- The laws about the definitions of `transform`.
 pub mod FloorLaws
 pub mod TruncateLaws
+pub mod Cutting
 pub mod StringLaws
 pub mod CountLaws
 pub mod GregorianLaws

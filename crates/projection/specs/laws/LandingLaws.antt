@@ -30,10 +30,10 @@ use Rattle.expr.specs.Predicates.{Test, Predicate, test, literalsIn}
 use Rattle.projection.specs.laws.LeafDemand.{HeldIn}
 use Rattle.projection.specs.Lifting.{lifted}
 use Rattle.projection.specs.laws.LiteralLaws.{Landed, lands, lift-lands, inclusive-numbers, strict-numbers, inclusive-bytes, strict-bytes}
-use Rattle.projection.specs.laws.NumberLaws.{liftIf, returned-lifted}
+use Rattle.projection.specs.laws.LiftingLaws.{liftIf, returned-lifted}
 use Rattle.projection.specs.NumberSteps.{inclusiveNumber, strictNumber}
 use Rattle.projection.specs.Projection.{inclusiveLength, strictLength, numberUnder, numberStep, projectNumbers, bytesUnder, bytesStep, projectBytes}
-use Rattle.projection.specs.laws.MissingLaws.{literal-value}
+use Rattle.projection.specs.laws.RowLaws.{literal-value}
 use Rattle.projection.specs.laws.ProjectionLaws.{course}
 use Rattle.projection.specs.laws.StepLaws.{Returned, returned-weaken}
 use Rattle.projection.specs.Steps.{some}

@@ -7,7 +7,7 @@ use mathlib.Core.Path.{_≡_, sym, ap, _∙_}
 use lib.IntN.{ℤ}
 use lib.Signed.{_≤ℤ_}
 use Rattle.values.specs.code.Places.{AllOf}
-use Rattle.values.specs.Outcomes.{ok, Row, missing, present}
+use Rattle.values.specs.Outcomes.{Res, ok, Row, missing, present}
 use Rattle.values.specs.laws.OutcomeLaws.{ok-inj, present-inj}
 use Rattle.values.specs.Order.{compareNumbers, compareBytes}
 use Rattle.values.specs.laws.OrderLaws.{bytes-order}
@@ -22,6 +22,7 @@ use Rattle.partition.specs.laws.BytesPartitionLaws.{bytes-present, bytes-missin
 use Rattle.partition.specs.laws.PartitionLaws.{number-mono, number-identity, number-missing}
 use Rattle.partition.specs.laws.PartitionRowLaws.{number-rows, bytes-rows}
 use Rattle.transform.specs.Truncate.{firstCodePoints}
+use Rattle.transform.specs.laws.StringLaws.{string-cutting}
 use Rattle.expr.specs.Holds.{bytesTests, meets}
 use Rattle.expr.specs.Predicates.{Test, Predicate, unary, test, literalsIn}
 use Rattle.projection.specs.laws.ByteLaws.{follows, leads}
@@ -31,9 +32,10 @@ use Rattle.projection.specs.laws.NumberLaws.{LiftedExact, AllExact, lift
 use Rattle.projection.specs.laws.NumberRowLaws.{strict-rows, inclusive-rows, strict-unary, inclusive-unary, strict-itself, inclusive-itself}
 use Rattle.projection.specs.Projection.{through, numberUnder, numberStep, projectNumbers, bytesUnder, bytesStep, projectBytes}
 use Rattle.projection.specs.laws.ProjectionLaws.{bySteps, Course, leafItself, stepped, course}
-use Rattle.projection.specs.laws.MissingLaws.{literal-value, same-row}
+use Rattle.projection.specs.laws.MissingLaws.{SameMissing, number-step-missing, bytes-step-missing}
+use Rattle.projection.specs.laws.RowLaws.{literal-value, same-row}
 use Rattle.projection.specs.laws.SoundLaws.{Demanded, Sound, tests-sound, unary-sound, itself-sound}
-use Rattle.projection.specs.laws.StepLaws.{Returned, returned, returned-by, returned-map}
+use Rattle.projection.specs.laws.StepLaws.{Returned, returned, returned-by, returned-both, returned-map}
 use Rattle.projection.specs.Steps.{some}
 use Rattle.projection.specs.declared.question.Question.{Question}
 use Rattle.projection.specs.declared.question.Question.the-variants.{Inclusive, Strict}
@@ -61,10 +63,15 @@ module _ (column : PrimitiveType) (transform : Transform) where
       returned-map
       test
       (numberStep column transform Strict x)
-      (AllExact column (numberUnder column transform) x)
+      (λ q. AllExact column (numberUnder column transform) x q × SameMissing x q)
       (StrictExact (InType column) (ofRow (transformNumber column transform)) (test x))
       (strict-rows column (transformNumber column transform) (never-missing h) x)
+      (returned-both
+      (numberStep column transform Strict x)
+      (AllExact column (numberUnder column transform) x)
+      (λ q. SameMissing x q)
       (strict-exact column (numberUnder column transform) under-mono x fine)
+      (number-step-missing Strict column transform x))
 
   steps-inclusive : bySteps transform ≡ true → (leaf : Predicate ℤ) → AllOf (InType column) (literalsIn leaf)
       → Returned (through (numberStep column transform Inclusive) leaf)
@@ -74,10 +81,15 @@ module _ (column : PrimitiveType) (transform : Transform) where
       returned-map
       test
       (numberStep column transform Inclusive x)
-      (LiftedExact column (numberUnder column transform) (lifted column transform) x)
+      (λ q. LiftedExact column (numberUnder column transform) (lifted column transform) x q × SameMissing x q)
       (InclusiveExact (InType column) (ofRow (transformNumber column transform)) (test x) (lifted column transform))
       (inclusive-rows column (transformNumber column transform) (never-missing h) (lifted column transform) x)
+      (returned-both
+      (numberStep column transform Inclusive x)
+      (LiftedExact column (numberUnder column transform) (lifted column transform) x)
+      (λ q. SameMissing x q)
       (lifted-exact column (numberUnder column transform) under-mono (lifted column transform) x fine)
+      (number-step-missing Inclusive column transform x))
 
   -- under Identity a row is its own partition value
   identity-row : transform ≡ Identity → (r p : Row ℤ) → ofRow (transformNumber column transform) r ≡ ok p → r ≡ p
@@ -120,13 +132,16 @@ string-value : (question : Question) (w : ℕ) (x q : Test (List ℕ)) → AllOf
     → Demanded question (meets bytesTests x v) (meets bytesTests q p)
 string-value question w x q fine d v p held e = rw (present-inj (ok-inj (sym e ∙ string-truncates w v))) (go question d)
   where
-    cut : (s : List ℕ) → bytesUnder String (Truncate w) s ≡ ok (firstCodePoints w s)
-    cut s = literal-value (transformBytes String (Truncate w)) s (firstCodePoints w s) .1 (string-truncates w s)
+    T : List ℕ → Res (List ℕ)
+    T = bytesUnder String (Truncate w)
+
+    gives : (s : List ℕ) → T s ≡ ok (firstCodePoints w s)
+    gives s = literal-value (transformBytes String (Truncate w)) s (firstCodePoints w s) .1 (string-truncates w s)
 
     go : (question : Question) → bytesStep String (Truncate w) question x ≡ ok (some q)
         → Demanded question (meets bytesTests x v) (meets bytesTests q (firstCodePoints w v))
-    go Inclusive d = returned (bytesStep String (Truncate w) Inclusive x) _ (follows w (bytesUnder String (Truncate w)) cut x fine) d v held
-    go Strict d = returned (bytesStep String (Truncate w) Strict x) _ (leads w (bytesUnder String (Truncate w)) cut x fine) d v held
+    go Inclusive d = returned (bytesStep String (Truncate w) Inclusive x) _ (follows (string-cutting w) T gives x fine) d v held
+    go Strict d = returned (bytesStep String (Truncate w) Strict x) _ (leads (string-cutting w) T gives x fine) d v held
 
 module _ (question : Question) (column : PrimitiveType) (transform : Transform) where
   -- no other byte string has a partition value where projections go by steps
@@ -152,8 +167,11 @@ module _ (question : Question) (column : PrimitiveType) (transform : Transform) 
       (bytesStep column transform question x)
       (λ q. bytesStep column transform question x ≡ ok (some q))
       (Sound bytesTests bytesTests (HeldIn column) question (ofRow (transformBytes column transform)) (test x))
-      (λ q d. tests-sound bytesTests bytesTests (HeldIn column) (transformBytes column transform) (bytes-never h) question x q (bytes-value h x q fine d))
+      (λ q d. tests-sound bytesTests bytesTests (HeldIn column) (transformBytes column transform) (bytes-never h) question x q (same q d) (bytes-value h x q fine d))
       (returned-by (bytesStep column transform question x) (λ q. bytesStep column transform question x ≡ ok (some q)) (λ q d. d))
+    where
+      same : (q : Test (List ℕ)) → bytesStep column transform question x ≡ ok (some q) → SameMissing x q
+      same q d = returned (bytesStep column transform question x) (λ p. SameMissing x p) (bytes-step-missing question column transform x) d
 
   bytes-own : transform ≡ Identity → (r p : Row (List ℕ)) → ofRow (transformBytes column transform) r ≡ ok p → r ≡ p
   bytes-own t r p e = same-row (transformBytes column transform) (λ v p e. ok-inj (sym (bytes-identity column v) ∙ (rw t at e))) r p e

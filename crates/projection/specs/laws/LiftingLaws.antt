@@ -1,23 +1,26 @@
 -- Laws of lifting: a lifted test accepts what the test accepts, and what is one above a negative literal that it accepts. Assumes nothing.
 use Prim.Native.Nat.{ℕ}
-use mathlib.Core.Bool.{true, not}
+use mathlib.Core.Bool.{Bool, true, false, not}
 use mathlib.Core.List.{List, [], _∷_, List·Memᴰ as Isin, List·Memᴰ·head as here, List·Memᴰ·tail as there, List·Memᴰ·eq-of-singleton as eq-of-singleton}
 use mathlib.Core.Logic.{_⊎_, inl, inr, ⊎-elim, _↔_}
 use mathlib.Core.Path.{_≡_, refl, ap}
-use lib.IntN.{ℤ, pos, negsuc, sucℤ}
+use lib.IntN.{ℤ, pos, negsuc, sucℤ, predℤ, suc-pred}
 use lib.Signed.{_≤ℤ_, _<ℤ_}
 use borrow.Author.Tests.{not-true}
-use Rattle.values.specs.Ascending.{elem, ascending}
-use Rattle.values.specs.laws.AscendingLaws.{elem-iff, elem-ascending}
 use Rattle.values.specs.laws.IntLaws.{ints, le-or-lt}
-use Rattle.values.specs.Order.{compareNumbers, isLess, isEqual}
-use Rattle.values.specs.laws.OrderLaws.{is-less, is-equal, number-less, number-equal, number-order}
+use Rattle.values.specs.Order.{compareNumbers, isLess}
+use Rattle.values.specs.laws.OrderLaws.{is-less, number-less}
+use Rattle.values.specs.Outcomes.{Res, ok, err, _>>=_}
 use Rattle.values.specs.laws.RangeLaws.{next}
 use Rattle.values.specs.laws.TestLaws.{refuted, clash}
+use Rattle.expr.specs.laws.EqualityLaws.{number-tells, is-same, is-member, is-ascending-member}
 use Rattle.expr.specs.Holds.{numberTests, meets}
 use Rattle.expr.specs.Operators.{lessThan, lessThanOrEq, greaterThan, greaterThanOrEq, eq, notEq, startsWith, notStartsWith, isIn, notIn}
 use Rattle.expr.specs.Predicates.{Test, binary, set, test, literalsIn}
 use Rattle.projection.specs.Lifting.{withNexts, lift}
+use Rattle.projection.specs.Projection.{liftedBy}
+use Rattle.projection.specs.Steps.{Projected, some, none}
+use Rattle.projection.specs.laws.StepLaws.{Returned, returned-map}
 
 -- ---- the tests of numbers, as orders
 pub is-below : (v l : ℤ) → (isLess (compareNumbers v l) ≡ true) ↔ (v <ℤ l)
@@ -29,14 +32,15 @@ is-at-most v l = (
   λ h. ap not (refuted _ (λ k. let j = is-below l v .0 k in omega ints)),
 )
 
-pub is-same : (v l : ℤ) → (isEqual (compareNumbers v l) ≡ true) ↔ (v ≡ l)
-is-same v l = (λ h. number-equal v l .0 (is-equal (compareNumbers v l) .0 h), λ h. is-equal (compareNumbers v l) .1 (number-equal v l .1 h))
+-- < L is ≤ L−1, and > L is ≥ L+1
+pub less-is : (v l : ℤ) → (meets numberTests (binary lessThan l) v ≡ true) ↔ (v ≤ℤ predℤ l)
+less-is v l = (
+  λ h. let k = is-below v l .0 h in omega (ints, next (predℤ l), suc-pred l),
+  λ h. is-below v l .1 (omega (ints, next (predℤ l), suc-pred l)),
+)
 
-pub is-member : (v : ℤ) (ls : List ℤ) → (elem compareNumbers v ls ≡ true) ↔ Isin v ls
-is-member v ls = elem-iff compareNumbers (number-order .equal) (number-order .self) v ls
-
-pub is-ascending-member : (v : ℤ) (ls : List ℤ) → (elem compareNumbers v (ascending compareNumbers ls) ≡ true) ↔ Isin v ls
-is-ascending-member v ls = rw (elem-ascending compareNumbers (number-order .equal) v ls) (is-member v ls)
+pub greater-is : (v l : ℤ) → (meets numberTests (binary greaterThan l) v ≡ true) ↔ (sucℤ l ≤ℤ v)
+greater-is v l = (λ h. let k = is-below l v .0 h in omega (ints, next l), λ h. is-below l v .1 (omega (ints, next l)))
 
 -- ---- lists
 
@@ -78,11 +82,11 @@ lift-keeps (binary lessThanOrEq (negsuc n)) p h = let k = is-at-most p (negsuc n
 lift-keeps (binary greaterThan t) p h = h
 lift-keeps (binary greaterThanOrEq t) p h = h
 lift-keeps (binary eq (pos n)) p h = h
-lift-keeps (binary eq (negsuc n)) p h = is-member p (withNexts (negsuc n ∷ [])) .1 (here (is-same p (negsuc n) .0 h))
+lift-keeps (binary eq (negsuc n)) p h = is-member numberTests number-tells p (withNexts (negsuc n ∷ [])) .1 (here (is-same numberTests number-tells p (negsuc n) .0 h))
 lift-keeps (binary notEq t) p h = h
 lift-keeps (binary startsWith t) p h = h
 lift-keeps (binary notStartsWith t) p h = h
-lift-keeps (set isIn ts) p h = is-ascending-member p (withNexts ts) .1 (keeps-member ts (is-member p ts .0 h))
+lift-keeps (set isIn ts) p h = is-ascending-member numberTests number-tells p (withNexts ts) .1 (keeps-member ts (is-member numberTests number-tells p ts .0 h))
 lift-keeps (set notIn ts) p h = h
 
 -- ---- and what is one above a negative number that it accepts: so for each test that an inclusive projection returns
@@ -98,11 +102,11 @@ pub at-least-rises : (t : ℤ) → Rises (binary greaterThanOrEq t)
 at-least-rises t z g h = let k = is-at-most t z .0 h in is-at-most t (sucℤ z) .1 (omega (ints, next z))
 
 pub equal-rises : (t : ℤ) → Rises (binary eq t)
-equal-rises (pos n) z g h = let e = is-same z (pos n) .0 h in absurd (omega ints)
-equal-rises (negsuc n) z g h = is-member (sucℤ z) (withNexts (negsuc n ∷ [])) .1 (there (here (ap sucℤ (is-same z (negsuc n) .0 h))))
+equal-rises (pos n) z g h = let e = is-same numberTests number-tells z (pos n) .0 h in absurd (omega ints)
+equal-rises (negsuc n) z g h = is-member numberTests number-tells (sucℤ z) (withNexts (negsuc n ∷ [])) .1 (there (here (ap sucℤ (is-same numberTests number-tells z (negsuc n) .0 h))))
 
 pub within-rises : (ts : List ℤ) → Rises (set isIn ts)
-within-rises ts z g h = is-ascending-member (sucℤ z) (withNexts ts) .1 (adds-next ts g (is-member z ts .0 h))
+within-rises ts z g h = is-ascending-member numberTests number-tells (sucℤ z) (withNexts ts) .1 (adds-next ts g (is-member numberTests number-tells z ts .0 h))
 
 -- ---- and nothing else
 pub lift-back : (q : Test ℤ) (p : ℤ) → meets numberTests (lift q) p ≡ true
@@ -120,15 +124,27 @@ lift-back (binary greaterThanOrEq t) p h = inl h
 lift-back (binary eq (pos n)) p h = inl h
 lift-back (binary eq (negsuc n)) p h =
     ⊎-elim
-    (λ m. inl (is-same p (negsuc n) .1 (eq-of-singleton m)))
-    (λ a. inr (a .0, a .1, a .2, (is-same (a .0) (negsuc n) .1 (eq-of-singleton (a .3)), a .3)))
-    (member-or-next (negsuc n ∷ []) (is-member p (withNexts (negsuc n ∷ [])) .0 h))
+    (λ m. inl (is-same numberTests number-tells p (negsuc n) .1 (eq-of-singleton m)))
+    (λ a. inr (a .0, a .1, a .2, (is-same numberTests number-tells (a .0) (negsuc n) .1 (eq-of-singleton (a .3)), a .3)))
+    (member-or-next (negsuc n ∷ []) (is-member numberTests number-tells p (withNexts (negsuc n ∷ [])) .0 h))
 lift-back (binary notEq t) p h = inl h
 lift-back (binary startsWith t) p h = inl h
 lift-back (binary notStartsWith t) p h = inl h
 lift-back (set isIn ts) p h =
     ⊎-elim
-    (λ m. inl (is-member p ts .1 m))
-    (λ a. inr (a .0, a .1, a .2, (is-member (a .0) ts .1 (a .3), a .3)))
-    (member-or-next ts (is-ascending-member p (withNexts ts) .0 h))
+    (λ m. inl (is-member numberTests number-tells p ts .1 m))
+    (λ a. inr (a .0, a .1, a .2, (is-member numberTests number-tells (a .0) ts .1 (a .3), a .3)))
+    (member-or-next ts (is-ascending-member numberTests number-tells p (withNexts ts) .0 h))
 lift-back (set notIn ts) p h = inl h
+
+-- ---- lifting an answer
+abbrev pub liftIf : Bool → Test ℤ → Test ℤ
+liftIf true q = lift q
+liftIf false q = q
+
+pub returned-lifted : (lifts : Bool) (r : Res (Projected (Test ℤ))) (g h : Test ℤ → Type 0) → ((q : Test ℤ) → g q → h (liftIf lifts q))
+    → Returned r g → Returned (r >>= λ q. ok (liftedBy lifts q)) h
+returned-lifted true r g h k x = returned-map lift r g h k x
+returned-lifted false (ok (some q)) g h k x = k q x
+returned-lifted false (ok none) g h k x = tt
+returned-lifted false (err e) g h k x = tt

@@ -1,10 +1,8 @@
 -- The literals that the steps put into a predicate: where they lie, and how many they are. Assumes nothing.
 use Prim.Native.Nat.{ℕ, _*_, _≤_}
 use native.Mathlib.Omega.{arith}
-use mathlib.Core.Bool.{Bool, true, false, cond}
 use mathlib.Core.List.{List, [], _∷_}
 use mathlib.Core.Path.{_≡_}
-use lib.Dec.{eqb, ltb}
 use lib.IntN.{ℤ, pos, negsuc, sucℤ, predℤ}
 use lib.ListN.{length}
 use lib.Signed.{_<ℤ_}
@@ -12,7 +10,7 @@ use Rattle.values.specs.code.Places.{AllOf}
 use Rattle.values.specs.laws.AscendingLaws.{all-ascending, length-ascending}
 use Rattle.values.specs.laws.IntLaws.{ints}
 use Rattle.values.specs.Order.{compareNumbers, compareBytes}
-use Rattle.values.specs.Outcomes.{Res, ok, err, need, _>>=_, _>>_}
+use Rattle.values.specs.Outcomes.{Res, ok, need, _>>_}
 use Rattle.values.specs.laws.OutcomeLaws.{each-length, each-all, passed}
 use Rattle.values.specs.Types.{inType}
 use Rattle.values.specs.declared.datatypes.PrimitiveType.{PrimitiveType}
@@ -28,7 +26,7 @@ use Rattle.projection.specs.Lifting.{withNexts, lift}
 use Rattle.projection.specs.NumberSteps.{inclusiveNumber, strictNumber}
 use Rattle.projection.specs.Projection.{inOrder, through, byTransform}
 use Rattle.projection.specs.laws.ProjectionLaws.{Course, leafItself, stepped, course}
-use Rattle.projection.specs.laws.StepLaws.{Returned, returned, returned-map, returned-literal, returned-each}
+use Rattle.projection.specs.laws.StepLaws.{Returned, returned, returned-map, returned-literal, returned-each, returned-length}
 use Rattle.projection.specs.Steps.{Projected, some, none, withLiteral, withEach}
 
 -- ---- any kind of value
@@ -165,22 +163,10 @@ module _ (T : List ℕ → Res (List ℕ)) (count : List ℕ → Res ℕ) (w : �
   byte-sets : (o : SetOperator) (ls : List (List ℕ)) → AllOf g ls → Returned (withEach compareBytes o T ls) (λ q. Landed h (length ls) (test q))
   byte-sets o ls x = each-lands compareBytes h o T g gives ls x
 
-  by-length : (l : List ℕ) (whole short : Projected (Test (List ℕ))) (long : Res (Projected (Test (List ℕ)))) (k : Test (List ℕ) → Type 0)
-      → Returned (ok whole) k → Returned (ok short) k → Returned long k → Returned (byLength count w l whole short long) k
-  by-length l whole short long k a b c = go (count l)
-    where
-      choice : (s t : Bool) → Returned (cond s (ok whole) (cond t (ok short) long)) k
-      choice true t = a
-      choice false true = b
-      choice false false = c
-
-      go : (r : Res ℕ) → Returned (r >>= λ n. cond (eqb n w) (ok whole) (cond (ltb n w) (ok short) long)) k
-      go (ok n) = choice (eqb n w) (ltb n w)
-      go (err e) = tt
-
   starts : (o p : Binary) (l : List ℕ) (long : Res (Projected (Test (List ℕ)))) → g l → Returned long (λ q. Landed h 1 (test q))
       → Returned (byLength count w l (some (binary o l)) (some (binary p l)) long) (λ q. Landed h 1 (test q))
-  starts o p l long x c = by-length l (some (binary o l)) (some (binary p l)) long (λ q. Landed h 1 (test q)) (kept o l x) (kept p l x) c
+  starts o p l long x c =
+      returned-length count w l (some (binary o l)) (some (binary p l)) long (λ q. Landed h 1 (test q)) (λ n k d. kept o l x) (λ n k d. kept p l x) (λ n k d. c)
 
   pub inclusive-bytes : (y : Test (List ℕ)) → AllOf g (literalsIn (test y))
       → Returned (inclusiveBytes T count w y) (λ q. Landed h (length (literalsIn (test y))) (test q))

@@ -1,50 +1,142 @@
--- Rows and their partition values: both are missing or both present, and what a missing value meets. Assumes nothing.
-use mathlib.Core.Bool.{false}
-use mathlib.Core.Logic.{_↔_}
-use mathlib.Core.Path.{_≡_, refl, ap}
-use Rattle.values.specs.Outcomes.{Res, ok, err, _>>=_, Row, missing, present}
-use Rattle.values.specs.laws.OutcomeLaws.{ok-inj, ok-not-err, missing-not-present}
-use Rattle.partition.specs.Partition.{ofRow}
-use Rattle.expr.specs.Holds.{Tests, holds}
-use Rattle.expr.specs.Operators.{Unary}
-use Rattle.expr.specs.Predicates.{Test, binary, set, unary, test}
-use Rattle.projection.specs.Steps.{valueIn, literalUnder}
+-- A returned test has of a missing value what the leaf has: row by row of both tables, lifted or not. Assumes nothing.
+use Prim.Native.Nat.{ℕ}
+use mathlib.Core.Bool.{Bool, true, false}
+use mathlib.Core.List.{List}
+use mathlib.Core.Path.{_≡_, refl, _∙_}
+use lib.IntN.{ℤ, pos, negsuc}
+use Rattle.values.specs.Order.{compareNumbers, compareBytes}
+use Rattle.values.specs.Outcomes.{Res, ok}
+use Rattle.values.specs.Transforms.{widthOf}
+use Rattle.values.specs.declared.datatypes.PrimitiveType.{PrimitiveType}
+use Rattle.values.specs.declared.order.Ordering.{Ordering}
+use Rattle.values.specs.declared.transform.Transform.{Transform}
+use Rattle.expr.specs.Holds.{missingMeets}
+use Rattle.expr.specs.Operators.{Binary, SetOperator, one, many, lessThan, lessThanOrEq, greaterThan, greaterThanOrEq, eq, notEq, startsWith, notStartsWith, isIn, notIn}
+use Rattle.expr.specs.Predicates.{Test, binary, set, test, byArityIn}
+use Rattle.projection.specs.ByteSteps.{byLength, inclusiveBytes, strictBytes}
+use Rattle.projection.specs.Lifting.{lift, lifted}
+use Rattle.projection.specs.NumberSteps.{oneBelow, oneAbove, inclusiveNumber, strictNumber}
+use Rattle.projection.specs.Projection.{numberUnder, numberStep, bytesUnder, bytesStep, inclusiveLength, strictLength}
+use Rattle.projection.specs.Steps.{Projected, some, none, withLiteral, withEach}
+use Rattle.projection.specs.declared.question.Question.{Question}
+use Rattle.projection.specs.declared.question.Question.the-variants.{Inclusive, Strict}
+use Rattle.projection.specs.laws.LiftingLaws.{liftIf, returned-lifted}
+use Rattle.projection.specs.laws.StepLaws.{Returned, returned-literal, returned-each, returned-length}
 
--- a missing value meets no test against literals
-pub test-missing : {A : Type 0} (by : Tests A) (t : Test A) → holds by (test t) missing ≡ false
-test-missing by (binary o l) = refl
-test-missing by (set o ls) = refl
+-- whether a missing value meets a test
+abbrev pub meetsMissing : {A : Type 0} → Test A → Bool
+meetsMissing x = missingMeets (byArityIn (test x))
 
-value-in : {B : Type 0} (r : Res (Row B)) {p : B} → (r >>= valueIn) ≡ ok p → r ≡ ok (present p)
-value-in (ok missing) e = ok-not-err e
-value-in (ok (present t)) e = ap (λ z. ok (present z)) (ok-inj e)
-value-in (err x) e = ok-not-err e
+abbrev pub SameMissing : {A B : Type 0} → Test A → Test B → Type 0
+SameMissing x q = meetsMissing q ≡ meetsMissing x
 
-module _ {A B : Type 0} (value : A → Res (Row B)) where
-  -- T(L) is the partition value of a row that has L
-  pub literal-value : (v : A) (p : B) → (literalUnder value v ≡ ok p) ↔ (value v ≡ ok (present p))
-  literal-value v p = (λ e. value-in (value v) e, λ e. ap (λ r. r >>= valueIn) e)
+module _ {A B : Type 0} (x : Test A) where
+  one-missing : (o : Binary) (r : Res B) → missingMeets (one o) ≡ meetsMissing x → Returned (withLiteral o r) (λ q. SameMissing x q)
+  one-missing o r e = returned-literal o r (λ q. SameMissing x q) (λ t d. e)
 
-  -- where each present value has a present one, or none
-  module _ (never : (v : A) → value v ≡ ok missing → ⊥) where
-    pub missing-row : (r : Row A) → ofRow value r ≡ ok missing → r ≡ missing
-    missing-row missing e = refl
-    missing-row (present v) e = absurd (never v e)
+  each-missing : (compare : B → B → Ordering) (o : SetOperator) (T : A → Res B) (ls : List A) → missingMeets (many o) ≡ meetsMissing x
+      → Returned (withEach compare o T ls) (λ q. SameMissing x q)
+  each-missing compare o T ls e = returned-each compare o T ls (λ q. SameMissing x q) (λ ts d. e)
 
-    pub present-row : (r : Row A) {p : B} → ofRow value r ≡ ok (present p) → (v : A) × (r ≡ present v) × (value v ≡ ok (present p))
-    present-row missing e = missing-not-present (ok-inj e)
-    present-row (present v) e = (v, refl, e)
+-- ---- numbers
+module _ (column : PrimitiveType) (T : ℤ → Res ℤ) where
+  inclusive-missing : (x : Test ℤ) → Returned (inclusiveNumber column T x) (λ q. SameMissing x q)
+  inclusive-missing (binary lessThan l) = one-missing (binary lessThan l) lessThanOrEq (oneBelow column T l) refl
+  inclusive-missing (binary lessThanOrEq l) = one-missing (binary lessThanOrEq l) lessThanOrEq (T l) refl
+  inclusive-missing (binary greaterThan l) = one-missing (binary greaterThan l) greaterThanOrEq (oneAbove column T l) refl
+  inclusive-missing (binary greaterThanOrEq l) = one-missing (binary greaterThanOrEq l) greaterThanOrEq (T l) refl
+  inclusive-missing (binary eq l) = one-missing (binary eq l) eq (T l) refl
+  inclusive-missing (binary notEq l) = tt
+  inclusive-missing (binary startsWith l) = one-missing (binary startsWith l) startsWith (T l) refl
+  inclusive-missing (binary notStartsWith l) = one-missing (binary notStartsWith l) notStartsWith (T l) refl
+  inclusive-missing (set isIn ls) = each-missing (set isIn ls) compareNumbers isIn T ls refl
+  inclusive-missing (set notIn ls) = tt
 
-    -- 101 to 104 ask only whether a value is missing
-    pub unary-row : (rows : Tests A) (parts : Tests B) (o : Unary) (r : Row A) (p : Row B) → ofRow value r ≡ ok p
-        → holds rows (unary o) r ≡ holds parts (unary o) p
-    unary-row rows parts o missing missing e = refl
-    unary-row rows parts o missing (present p) e = missing-not-present (ok-inj e)
-    unary-row rows parts o (present v) missing e = absurd (never v e)
-    unary-row rows parts o (present v) (present p) e = refl
+  strict-missing : (x : Test ℤ) → Returned (strictNumber column T x) (λ q. SameMissing x q)
+  strict-missing (binary lessThan l) = one-missing (binary lessThan l) lessThan (T l) refl
+  strict-missing (binary lessThanOrEq l) = one-missing (binary lessThanOrEq l) lessThan (oneAbove column T l) refl
+  strict-missing (binary greaterThan l) = one-missing (binary greaterThan l) greaterThan (T l) refl
+  strict-missing (binary greaterThanOrEq l) = one-missing (binary greaterThanOrEq l) greaterThan (oneBelow column T l) refl
+  strict-missing (binary eq l) = tt
+  strict-missing (binary notEq l) = one-missing (binary notEq l) notEq (T l) refl
+  strict-missing (binary startsWith l) = tt
+  strict-missing (binary notStartsWith l) = tt
+  strict-missing (set isIn ls) = tt
+  strict-missing (set notIn ls) = each-missing (set notIn ls) compareNumbers notIn T ls refl
 
--- where each value is its own partition value, so is each row
-pub same-row : {A : Type 0} (value : A → Res (Row A)) → ((v : A) (p : Row A) → value v ≡ ok p → present v ≡ p) → (r p : Row A)
-    → ofRow value r ≡ ok p → r ≡ p
-same-row value same missing p e = ok-inj e
-same-row value same (present v) p e = same v p e
+lift-missing : (q : Test ℤ) → SameMissing q (lift q)
+lift-missing (binary lessThan t) = refl
+lift-missing (binary lessThanOrEq (pos n)) = refl
+lift-missing (binary lessThanOrEq (negsuc n)) = refl
+lift-missing (binary greaterThan t) = refl
+lift-missing (binary greaterThanOrEq t) = refl
+lift-missing (binary eq (pos n)) = refl
+lift-missing (binary eq (negsuc n)) = refl
+lift-missing (binary notEq t) = refl
+lift-missing (binary startsWith t) = refl
+lift-missing (binary notStartsWith t) = refl
+lift-missing (set isIn ts) = refl
+lift-missing (set notIn ts) = refl
+
+lifted-missing : (lifts : Bool) (x q : Test ℤ) → SameMissing x q → SameMissing x (liftIf lifts q)
+lifted-missing true x q e = lift-missing q ∙ e
+lifted-missing false x q e = e
+
+pub number-step-missing : (question : Question) (column : PrimitiveType) (transform : Transform) (x : Test ℤ)
+    → Returned (numberStep column transform question x) (λ q. SameMissing x q)
+number-step-missing Inclusive column transform x =
+    returned-lifted
+    (lifted column transform)
+    (inclusiveNumber column (numberUnder column transform) x)
+    (λ q. SameMissing x q)
+    (λ q. SameMissing x q)
+    (lifted-missing (lifted column transform) x)
+    (inclusive-missing column (numberUnder column transform) x)
+number-step-missing Strict column transform x = strict-missing column (numberUnder column transform) x
+
+-- ---- strings and binaries
+module _ (T : List ℕ → Res (List ℕ)) (count : List ℕ → Res ℕ) (w : ℕ) where
+  length-missing : (x : Test (List ℕ)) (l : List ℕ) (whole short : Binary) (long : Res (Projected (Test (List ℕ)))) → missingMeets (one whole) ≡ meetsMissing x
+      → missingMeets (one short) ≡ meetsMissing x → Returned long (λ q. SameMissing x q)
+      → Returned (byLength count w l (some (binary whole l)) (some (binary short l)) long) (λ q. SameMissing x q)
+  length-missing x l whole short long a b c =
+      returned-length count w l (some (binary whole l)) (some (binary short l)) long (λ q. SameMissing x q) (λ n k d. a) (λ n k d. b) (λ n k d. c)
+
+  inclusive-bytes-missing : (x : Test (List ℕ)) → Returned (inclusiveBytes T count w x) (λ q. SameMissing x q)
+  inclusive-bytes-missing (binary lessThan l) = one-missing (binary lessThan l) lessThanOrEq (T l) refl
+  inclusive-bytes-missing (binary lessThanOrEq l) = one-missing (binary lessThanOrEq l) lessThanOrEq (T l) refl
+  inclusive-bytes-missing (binary greaterThan l) = one-missing (binary greaterThan l) greaterThanOrEq (T l) refl
+  inclusive-bytes-missing (binary greaterThanOrEq l) = one-missing (binary greaterThanOrEq l) greaterThanOrEq (T l) refl
+  inclusive-bytes-missing (binary eq l) = one-missing (binary eq l) eq (T l) refl
+  inclusive-bytes-missing (binary notEq l) = tt
+  inclusive-bytes-missing (binary startsWith l) =
+      length-missing (binary startsWith l) l eq startsWith (withLiteral startsWith (T l)) refl refl (one-missing (binary startsWith l) startsWith (T l) refl)
+  inclusive-bytes-missing (binary notStartsWith l) = length-missing (binary notStartsWith l) l notEq notStartsWith (ok none) refl refl tt
+  inclusive-bytes-missing (set isIn ls) = each-missing (set isIn ls) compareBytes isIn T ls refl
+  inclusive-bytes-missing (set notIn ls) = tt
+
+  strict-bytes-missing : (x : Test (List ℕ)) → Returned (strictBytes T count w x) (λ q. SameMissing x q)
+  strict-bytes-missing (binary lessThan l) = one-missing (binary lessThan l) lessThan (T l) refl
+  strict-bytes-missing (binary lessThanOrEq l) = one-missing (binary lessThanOrEq l) lessThan (T l) refl
+  strict-bytes-missing (binary greaterThan l) = one-missing (binary greaterThan l) greaterThan (T l) refl
+  strict-bytes-missing (binary greaterThanOrEq l) = one-missing (binary greaterThanOrEq l) greaterThan (T l) refl
+  strict-bytes-missing (binary eq l) = tt
+  strict-bytes-missing (binary notEq l) = one-missing (binary notEq l) notEq (T l) refl
+  strict-bytes-missing (binary startsWith l) = length-missing (binary startsWith l) l eq startsWith (ok none) refl refl tt
+  strict-bytes-missing (binary notStartsWith l) =
+      length-missing
+      (binary notStartsWith l)
+      l
+      notEq
+      notStartsWith
+      (withLiteral notStartsWith (T l))
+      refl
+      refl
+      (one-missing (binary notStartsWith l) notStartsWith (T l) refl)
+  strict-bytes-missing (set isIn ls) = tt
+  strict-bytes-missing (set notIn ls) = each-missing (set notIn ls) compareBytes notIn T ls refl
+
+pub bytes-step-missing : (question : Question) (column : PrimitiveType) (transform : Transform) (x : Test (List ℕ))
+    → Returned (bytesStep column transform question x) (λ q. SameMissing x q)
+bytes-step-missing Inclusive column transform x = inclusive-bytes-missing (bytesUnder column transform) (inclusiveLength column) (widthOf transform) x
+bytes-step-missing Strict column transform x = strict-bytes-missing (bytesUnder column transform) (strictLength column) (widthOf transform) x

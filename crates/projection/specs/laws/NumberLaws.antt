@@ -4,7 +4,7 @@ use mathlib.Core.Bool.{Bool, true, false}
 use mathlib.Core.List.{[], _∷_, List·Memᴰ as Isin, List·Memᴰ·eq-of-singleton as eq-of-singleton}
 use mathlib.Core.Logic.{_⊎_, inl, inr, ⊎-elim, _↔_}
 use mathlib.Core.Path.{_≡_, refl, sym, ap, _∙_}
-use lib.IntN.{ℤ, sucℤ, predℤ, suc-pred}
+use lib.IntN.{ℤ, sucℤ, predℤ}
 use lib.Signed.{_≤ℤ_}
 use Rattle.values.specs.code.Places.{AllOf}
 use Rattle.values.specs.Ascending.{ascending}
@@ -12,45 +12,24 @@ use Rattle.values.specs.laws.AscendingLaws.{all-isin}
 use Rattle.values.specs.laws.IntLaws.{ints, le-or-lt, ≤ℤ-antisym}
 use Rattle.values.specs.Order.{compareNumbers}
 use Rattle.values.specs.Outcomes.{Res, ok, err, _>>=_}
-use Rattle.values.specs.laws.OutcomeLaws.{ok-inj, passed}
-use Rattle.values.specs.laws.RangeLaws.{next}
+use Rattle.values.specs.laws.OutcomeLaws.{passed}
 use Rattle.values.specs.laws.TestLaws.{stable, refuted, clash}
 use Rattle.values.specs.Types.{inType}
 use Rattle.values.specs.declared.datatypes.PrimitiveType.{PrimitiveType}
 use Rattle.values.specs.declared.error.ErrorKind.the-variants.{Overflow}
 use Rattle.partition.specs.code.PartitionAnswers.{InType}
 use Rattle.expr.specs.Holds.{numberTests, meets}
+use Rattle.expr.specs.laws.EqualityLaws.{number-tells}
 use Rattle.expr.specs.laws.HoldsLaws.{opposite, meets-false, opposite-true}
 use Rattle.expr.specs.Operators.{lessThan, lessThanOrEq, greaterThan, greaterThanOrEq, eq, notEq, startsWith, notStartsWith, isIn, notIn}
 use Rattle.expr.specs.Predicates.{Test, binary, set, test, literalsIn}
 use Rattle.projection.specs.Lifting.{lift}
-use Rattle.projection.specs.laws.LiftingLaws.{is-below, is-at-most, is-same, is-member, is-ascending-member, Above, lift-keeps, Rises, at-most-rises, at-least-rises, equal-rises, within-rises, lift-back}
+use Rattle.projection.specs.laws.LiftingLaws.{is-at-most, less-is, greater-is, Above, liftIf, returned-lifted, lift-keeps, Rises, at-most-rises, at-least-rises, equal-rises, within-rises, lift-back}
 use Rattle.projection.specs.NumberSteps.{oneBelow, oneAbove, inclusiveNumber, strictNumber}
 use Rattle.projection.specs.Projection.{liftedBy}
-use Rattle.projection.specs.laws.StepLaws.{Returned, returned-map, returned-literal, returned-each, opposite-literal, opposite-each, each-into, Literal, each-from}
-use Rattle.projection.specs.Steps.{Projected, some, none, mapped}
-
--- ---- < L is ≤ L−1, and > L is ≥ L+1
-less-is : (v l : ℤ) → (meets numberTests (binary lessThan l) v ≡ true) ↔ (v ≤ℤ predℤ l)
-less-is v l = (
-  λ h. let k = is-below v l .0 h in omega (ints, next (predℤ l), suc-pred l),
-  λ h. is-below v l .1 (omega (ints, next (predℤ l), suc-pred l)),
-)
-
-greater-is : (v l : ℤ) → (meets numberTests (binary greaterThan l) v ≡ true) ↔ (sucℤ l ≤ℤ v)
-greater-is v l = (λ h. let k = is-below l v .0 h in omega (ints, next l), λ h. is-below l v .1 (omega (ints, next l)))
-
--- ---- lifting an answer
-abbrev pub liftIf : Bool → Test ℤ → Test ℤ
-liftIf true q = lift q
-liftIf false q = q
-
-pub returned-lifted : (lifts : Bool) (r : Res (Projected (Test ℤ))) (g h : Test ℤ → Type 0) → ((q : Test ℤ) → g q → h (liftIf lifts q))
-    → Returned r g → Returned (r >>= λ q. ok (liftedBy lifts q)) h
-returned-lifted true r g h k x = returned-map lift r g h k x
-returned-lifted false (ok (some q)) g h k x = k q x
-returned-lifted false (ok none) g h k x = tt
-returned-lifted false (err e) g h k x = tt
+use Rattle.projection.specs.laws.EqualLaws.{Equals, eq-equals, in-equals}
+use Rattle.projection.specs.laws.StepLaws.{Returned, returned-map, returned-literal, returned-each, opposite-literal, opposite-each, Literal}
+use Rattle.projection.specs.Steps.{Projected, some, none, mapped, withLiteral, withEach}
 
 -- ---- inclusive
 
@@ -137,6 +116,21 @@ module _ (column : PrimitiveType) (T : ℤ → Res ℤ) (mono : (v w p q : ℤ) 
       (at-least-rises t)
       refl
 
+  -- Eq and In ask no order
+  equals-exact : (x : Test ℤ) (r : Res (Projected (Test ℤ))) → AllOf (InType column) (literalsIn (test x))
+      → Returned r (Equals numberTests numberTests number-tells number-tells T x) → Returned r Rises → Returned r (Exact column T x)
+  equals-exact x (ok none) fine s rise = tt
+  equals-exact x (err e) fine s rise = tt
+  equals-exact x (ok (some q)) fine s rise = record {
+    kept = λ v p h m. s .kept v p (h .1) m;
+    needed = λ v p h m. let l = s .needed p m in (l .0, from l, s .own (l .0) (l .2));
+    rises = rise;
+    literals = λ t m. let l = s .literals t m in (l .0, from l);
+  }
+    where
+      from : {p : ℤ} (l : Literal T (literalsIn (test x)) p) → Has column T (l .0) p
+      from l = (all-isin (InType column) (l .0) (literalsIn (test x)) fine (l .2), l .1)
+
   pub inclusive-exact : (x : Test ℤ) → AllOf (InType column) (literalsIn (test x)) → Returned (inclusiveNumber column T x) (Exact column T x)
   inclusive-exact (binary lessThan l) fine =
       returned-literal
@@ -163,12 +157,12 @@ module _ (column : PrimitiveType) (T : ℤ → Res ℤ) (mono : (v w p q : ℤ) 
       (Exact column T (binary greaterThanOrEq l))
       (λ t e. at-least l t (binary greaterThanOrEq l) (fine .0, e) (λ v. is-at-most l v))
   inclusive-exact (binary eq l) fine =
-      returned-literal eq (T l) (Exact column T (binary eq l)) (λ t e. record {
-        kept = λ v p h m. is-same p t .1 (ok-inj (sym (h .1) ∙ ap T (is-same v l .0 m) ∙ e));
-        needed = λ v p h m. (l, (fine .0, e ∙ ap ok (sym (is-same p t .0 m))), is-same l l .1 refl);
-        rises = equal-rises t;
-        literals = λ k m. (l, (fine .0, e ∙ ap ok (sym (eq-of-singleton m))));
-      })
+      equals-exact
+      (binary eq l)
+      (withLiteral eq (T l))
+      fine
+      (eq-equals numberTests numberTests number-tells number-tells T l)
+      (returned-literal eq (T l) Rises (λ t e. equal-rises t))
   inclusive-exact (binary notEq l) fine = tt
   inclusive-exact (binary startsWith l) fine =
       returned-literal startsWith (T l) (Exact column T (binary startsWith l)) (λ t e. record {
@@ -185,15 +179,12 @@ module _ (column : PrimitiveType) (T : ℤ → Res ℤ) (mono : (v w p q : ℤ) 
         literals = λ k m. (l, (fine .0, e ∙ ap ok (sym (eq-of-singleton m))));
       })
   inclusive-exact (set isIn ls) fine =
-      returned-each compareNumbers isIn T ls (Exact column T (set isIn ls)) (λ ts e. record {
-        kept = λ v p h m. is-ascending-member p ts .1 (each-into T ls e v p (h .1) (is-member v ls .0 m));
-        needed = λ v p h m. let l = each-from T ls e p (is-ascending-member p ts .0 m) in (l .0, from l, is-member (l .0) ls .1 (l .2));
-        rises = within-rises (ascending compareNumbers ts);
-        literals = λ t m. let l = each-from T ls e t (is-ascending-member t ts .0 (is-member t (ascending compareNumbers ts) .1 m)) in (l .0, from l);
-      })
-    where
-      from : {p : ℤ} (l : Literal T ls p) → Has column T (l .0) p
-      from l = (all-isin (InType column) (l .0) ls fine (l .2), l .1)
+      equals-exact
+      (set isIn ls)
+      (withEach compareNumbers isIn T ls)
+      fine
+      (in-equals numberTests numberTests number-tells number-tells T ls)
+      (returned-each compareNumbers isIn T ls Rises (λ ts e. within-rises (ascending compareNumbers ts)))
   inclusive-exact (set notIn ls) fine = tt
 
   -- ---- lifted

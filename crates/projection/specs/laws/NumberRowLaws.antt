@@ -1,5 +1,5 @@
 -- From the numbers of a partition value to its rows: what is exact of present values is exact of rows. Assumes nothing.
-use mathlib.Core.Bool.{Bool, true, false}
+use mathlib.Core.Bool.{Bool, false}
 use mathlib.Core.Logic.{_⊎_, inl, inr, ⊎-elim}
 use mathlib.Core.Path.{_≡_, sym, ap, _∙_}
 use lib.IntN.{ℤ}
@@ -18,7 +18,8 @@ use Rattle.projection.specs.laws.LeafDemand.{RowOf, SomeRow, AllRows, St
 use Rattle.projection.specs.laws.NumberLaws.{Has, SomeNumber, AllNumbers, LiftedExact, AllExact}
 use Rattle.projection.specs.Projection.{inOrder}
 use Rattle.projection.specs.laws.ProjectionLaws.{in-order-holds}
-use Rattle.projection.specs.laws.MissingLaws.{test-missing, literal-value, missing-row, present-row, unary-row}
+use Rattle.projection.specs.laws.MissingLaws.{SameMissing}
+use Rattle.projection.specs.laws.RowLaws.{literal-value, missing-row, present-row, unary-row}
 use Rattle.projection.specs.Steps.{literalUnder}
 
 module _ (column : PrimitiveType) (value : ℤ → Res (Row ℤ)) (never : (v : ℤ) → value v ≡ ok missing → ⊥) where
@@ -38,26 +39,32 @@ module _ (column : PrimitiveType) (value : ℤ → Res (Row ℤ)) (never : (v : 
     all-numbers : AllRows (InType column) (ofRow value) (test x) (present p) → AllNumbers column (literalUnder value) x p
     all-numbers all v e = all (present v) (e .0, literal-value value v p .0 (e .1))
 
-  -- a missing row meets no test
-  missing-fails : {X : Type 0} (x : Test ℤ) (r : Row ℤ) → ofRow value r ≡ ok missing → holds numberTests (test x) r ≡ true → X
-  missing-fails x r e m = clash (rw (missing-row value never r e) at m) (test-missing numberTests x)
+  -- the rows of the missing partition value are missing
+  missing-meets : (x : Test ℤ) (r : Row ℤ) → ofRow value r ≡ ok missing → holds numberTests (test x) r ≡ holds numberTests (test x) missing
+  missing-meets x r e = ap (holds numberTests (test x)) (missing-row value never r e)
 
-  pub strict-rows : (x q : Test ℤ) → AllExact column (literalUnder value) x q → StrictExact (InType column) (ofRow value) (test x) (test q)
-  strict-rows x q exact r missing e = (λ m. clash m (test-missing numberTests q), λ all. missing-fails x r (e .1) (all r e))
+  pub strict-rows : (x q : Test ℤ) → AllExact column (literalUnder value) x q × SameMissing x q → StrictExact (InType column) (ofRow value) (test x) (test q)
+  strict-rows x q exact r missing e = (
+    λ m s k. missing-meets x s (k .1) ∙ sym (exact .1) ∙ m,
+    λ all. exact .1 ∙ sym (missing-meets x r (e .1)) ∙ all r e,
+  )
   strict-rows x q exact r (present p) e =
       let a = row-of r e in
-      let k = exact (a .0) p (a .2) in
+      let k = exact .0 (a .0) p (a .2) in
       (λ m. all-rows x (k .0 m), λ all. k .1 (all-numbers x all))
 
-  pub inclusive-rows : (lifts : Bool) (x q : Test ℤ) → LiftedExact column (literalUnder value) lifts x q
+  pub inclusive-rows : (lifts : Bool) (x q : Test ℤ) → LiftedExact column (literalUnder value) lifts x q × SameMissing x q
       → InclusiveExact (InType column) (ofRow value) (test x) lifts (test q)
   inclusive-rows lifts x q exact r missing e = (
-    λ m. clash m (test-missing numberTests q),
-    λ o. ⊎-elim (λ s. missing-fails x (s .0) (s .1 .1) (s .2)) (λ a. missing-not-present (a .1 .1)) o,
+    λ m. inl (r, e, missing-meets x r (e .1) ∙ sym (exact .1) ∙ m),
+    λ o. ⊎-elim
+        (λ s. exact .1 ∙ sym (missing-meets x (s .0) (s .1 .1)) ∙ s .2)
+        (λ a. missing-not-present (a .1 .1))
+        o,
   )
   inclusive-rows lifts x q exact r (present p) e =
       let a = row-of r e in
-      let k = exact (a .0) p (a .2) in (
+      let k = exact .0 (a .0) p (a .2) in (
         λ m. ⊎-elim (λ s. inl (some-row x s)) (λ b. inr (b .0, (b .1 .0, ap present (b .1 .1), b .1 .2, some-row x (b .1 .3)))) (k .0 m),
         λ o. k .1 (⊎-elim (λ s. inl (some-number x s)) (λ b. inr (b .0, (b .1 .0, present-inj (b .1 .1), b .1 .2, some-number x (b .1 .3)))) o),
       )

@@ -11,7 +11,8 @@ use Rattle.expr.specs.Predicates.{Test, Predicate, unary, test}
 use Rattle.projection.specs.laws.LeafDemand.{RowOf, NoRowLost, StrictIsSafe}
 use Rattle.projection.specs.Projection.{inOrder}
 use Rattle.projection.specs.laws.ProjectionLaws.{in-order-holds}
-use Rattle.projection.specs.laws.MissingLaws.{test-missing, unary-row}
+use Rattle.projection.specs.laws.MissingLaws.{SameMissing}
+use Rattle.projection.specs.laws.RowLaws.{unary-row}
 use Rattle.projection.specs.declared.question.Question.{Question}
 use Rattle.projection.specs.declared.question.Question.the-variants.{Inclusive, Strict}
 
@@ -36,13 +37,13 @@ module _ {A B : Type 0} (rows : Tests A) (parts : Tests B) (Held : A → Type 0)
   sound-by Strict part leaf q k = k
 
   module _ (value : A → Res (Row B)) (never : (v : A) → value v ≡ ok missing → ⊥) (question : Question) where
-    pub tests-sound : (x : Test A) (q : Test B)
+    pub tests-sound : (x : Test A) (q : Test B) → SameMissing x q
         → ((v : A) (p : B) → Held v → value v ≡ ok (present p) → Demanded question (meets rows x v) (meets parts q p))
         → Sound question (ofRow value) (test x) (test q)
-    tests-sound x q k = sound-by question (ofRow value) (test x) (test q) go
+    tests-sound x q same k = sound-by question (ofRow value) (test x) (test q) go
       where
         go : (r : Row A) (p : Row B) → RowOf Held (ofRow value) r p → Demanded question (holds rows (test x) r) (holds parts (test q) p)
-        go missing missing e = demanded-same question (test-missing rows x ∙ sym (test-missing parts q))
+        go missing missing e = demanded-same question (sym same)
         go missing (present p) e = missing-not-present (ok-inj (e .1))
         go (present v) missing e = absurd (never v (e .1))
         go (present v) (present p) e = k v p (e .0) (e .1)

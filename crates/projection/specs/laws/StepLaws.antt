@@ -1,6 +1,10 @@
 -- What is said of a predicate where a projection returns one, and the literals that a step puts into it. Assumes nothing.
+use Prim.Native.Nat.{ℕ, _≤_, _<_}
+use mathlib.Core.Bool.{Bool, true, false, cond}
 use mathlib.Core.List.{List, [], _∷_, List·Memᴰ as Isin, List·Memᴰ·head as here, List·Memᴰ·tail as there, List·Memᴰ·not-nil as not-nil}
 use mathlib.Core.Path.{_≡_, refl, sym, ap, subst, _∙_}
+use lib.Dec.{eqb, ltb}
+use borrow.Author.Tests.{eqb-true, ltb-true, ltb-false}
 use Rattle.values.specs.Ascending.{ascending}
 use Rattle.values.specs.Outcomes.{Res, ok, err, each, _>>=_}
 use Rattle.values.specs.laws.OutcomeLaws.{ok-inj, each-cons}
@@ -8,6 +12,7 @@ use Rattle.values.specs.declared.order.Ordering.{Ordering}
 use Rattle.expr.specs.laws.HoldsLaws.{opposite, oppositeBinary, oppositeSet}
 use Rattle.expr.specs.Operators.{Binary, SetOperator}
 use Rattle.expr.specs.Predicates.{Test, binary, set}
+use Rattle.projection.specs.ByteSteps.{byLength}
 use Rattle.projection.specs.Steps.{Projected, some, none, mapped, withLiteral, withEach}
 
 -- ---- what is said of a predicate, where one is returned
@@ -26,6 +31,11 @@ returned-by (err e) g k = tt
 
 pub returned-weaken : {P : Type 0} (r : Res (Projected P)) (g h : P → Type 0) → ((p : P) → g p → h p) → Returned r g → Returned r h
 returned-weaken r g h k x = returned-by r h (λ p e. k p (returned r g x e))
+
+pub returned-both : {P : Type 0} (r : Res (Projected P)) (g h : P → Type 0) → Returned r g → Returned r h → Returned r (λ p. g p × h p)
+returned-both (ok (some p)) g h x y = (x, y)
+returned-both (ok none) g h x y = tt
+returned-both (err e) g h x y = tt
 
 pub returned-map : {P Q : Type 0} (f : P → Q) (r : Res (Projected P)) (g : P → Type 0) (h : Q → Type 0) → ((p : P) → g p → h (f p))
     → Returned r g → Returned (r >>= λ q. ok (mapped f q)) h
@@ -46,6 +56,37 @@ returned-each {B = B} compare o T ls g k = go (each T ls) k
         → Returned (r >>= λ ts. ok (some (set o (ascending compare ts)))) g
     go (ok ts) k = k ts refl
     go (err e) k = tt
+
+-- a choice by a literal's length against the width
+module _ (count : List ℕ → Res ℕ) (w : ℕ) (l : List ℕ) (whole short : Projected (Test (List ℕ))) (long : Res (Projected (Test (List ℕ)))) where
+  pub returned-length : (g : Test (List ℕ) → Type 0) → ((n : ℕ) → count l ≡ ok n → n ≡ w → Returned (ok whole) g)
+      → ((n : ℕ) → count l ≡ ok n → n < w → Returned (ok short) g) → ((n : ℕ) → count l ≡ ok n → w ≤ n → Returned long g)
+      → Returned (byLength count w l whole short long) g
+  returned-length g a b c = go (count l) refl
+    where
+      choice : (n : ℕ) → count l ≡ ok n → (s : Bool) → eqb n w ≡ s → (t : Bool) → ltb n w ≡ t → Returned (cond s (ok whole) (cond t (ok short) long)) g
+      choice n k true d t e = a n k (eqb-true n w d)
+      choice n k false d true e = b n k (ltb-true n w e)
+      choice n k false d false e = c n k (ltb-false n w e)
+
+      go : (r : Res ℕ) → count l ≡ r → Returned (r >>= λ n. cond (eqb n w) (ok whole) (cond (ltb n w) (ok short) long)) g
+      go (ok n) k = choice n k (eqb n w) refl (ltb n w) refl
+      go (err e) k = tt
+
+  pub opposite-length : (byLength count w l whole short long >>= λ q. ok (mapped opposite q))
+      ≡ byLength count w l (mapped opposite whole) (mapped opposite short) (long >>= λ q. ok (mapped opposite q))
+  opposite-length = go (count l)
+    where
+      choice : (s t : Bool) → (cond s (ok whole) (cond t (ok short) long) >>= λ q. ok (mapped opposite q))
+          ≡ cond s (ok (mapped opposite whole)) (cond t (ok (mapped opposite short)) (long >>= λ q. ok (mapped opposite q)))
+      choice true t = refl
+      choice false true = refl
+      choice false false = refl
+
+      go : (r : Res ℕ) → ((r >>= λ n. cond (eqb n w) (ok whole) (cond (ltb n w) (ok short) long)) >>= λ q. ok (mapped opposite q))
+          ≡ (r >>= λ n. cond (eqb n w) (ok (mapped opposite whole)) (cond (ltb n w) (ok (mapped opposite short)) (long >>= λ q. ok (mapped opposite q))))
+      go (ok n) = choice (eqb n w) (ltb n w)
+      go (err e) = refl
 
 -- ---- the opposite of an answer
 pub opposite-literal : {B : Type 0} (o : Binary) (r : Res B) → (withLiteral o r >>= λ q. ok (mapped opposite q)) ≡ withLiteral (oppositeBinary o) r

@@ -1,4 +1,4 @@
--- Laws of a string's first code points: they are a beginning of it, they keep the order of strings, and they agree with `startsWith`.
+-- Laws of a string's first code points: they are a beginning of it, they keep the order of strings, and they agree with `startsWith`: they are a cutting.
 -- Assumes nothing.
 use Prim.Native.Nat.{ℕ, zero, suc, _-_, _≤_}
 use native.Mathlib.Nat.{zero-sub, sub-zero, suc-sub-suc}
@@ -21,6 +21,7 @@ use Rattle.values.specs.laws.PrefixLaws.{starts-append, rest-of}
 use Rattle.values.specs.declared.order.Ordering.{Ordering}
 use Rattle.values.specs.declared.order.Ordering.the-variants.{Less, Greater}
 use Rattle.transform.specs.Truncate.{firstCodePoints}
+use Rattle.transform.specs.laws.Cutting.{Cutting}
 
 -- ---- lists
 
@@ -44,7 +45,7 @@ unfolding firstCodePoints
 first-rest w s =
     sym (concat-append (take w (codePoints s)) (drop w (codePoints s))) ∙ ap concat (take-append-drop w (codePoints s)) ∙ concat-code-points s
 
-pub first-prefix : (w : ℕ) (s : List ℕ) → startsWith s (firstCodePoints w s) ≡ true
+first-prefix : (w : ℕ) (s : List ℕ) → startsWith s (firstCodePoints w s) ≡ true
 first-prefix w s = ap (λ t. startsWith t (firstCodePoints w s)) (sym (first-rest w s)) ∙ starts-append (firstCodePoints w s) (concat (drop w (codePoints s)))
 
 pub first-take : (w : ℕ) (s : List ℕ) → firstCodePoints w s ≡ take (length (firstCodePoints w s)) s
@@ -120,7 +121,7 @@ points-mono (suc w) (c ∷ cs) (d ∷ ds) p q h k =
     (points-compared d c (j .0) (i .0))
 
 -- where s is at most t, it is so once both are cut
-pub first-mono :
+first-mono :
     (w : ℕ) (s t : List ℕ) → utf8 s ≡ true → utf8 t ≡ true → (compareBytes t s ≡ Less → ⊥) →
     compareBytes (firstCodePoints w t) (firstCodePoints w s) ≡ Less → ⊥
 unfolding firstCodePoints utf8
@@ -137,7 +138,7 @@ first-append w l t g =
     rw (code-points-append l t g, take-append w (codePoints l) (codePoints t))
     (concat-append (take w (codePoints l)) (take (w - length (codePoints l)) (codePoints t)))
 
-pub first-whole : (w : ℕ) (l : List ℕ) → length (codePoints l) ≤ w → firstCodePoints w l ≡ l
+first-whole : (w : ℕ) (l : List ℕ) → length (codePoints l) ≤ w → firstCodePoints w l ≡ l
 unfolding firstCodePoints
 first-whole w l h = rw (take-all w (codePoints l) h) (concat-code-points l)
 
@@ -147,17 +148,21 @@ split l v p q h =
     let r = rest-of v l h in
     (r .0, r .1, utf8-fresh (r .0) (utf8-after l (r .0) p (sym (ap utf8 (r .1)) ∙ q)))
 
-pub first-short :
+first-short :
     (w : ℕ) (l v : List ℕ) → utf8 l ≡ true → utf8 v ≡ true → length (codePoints l) ≤ w → startsWith v l ≡ true →
     startsWith (firstCodePoints w v) l ≡ true
 first-short w l v p q n h =
     let r = split l v p q h in
     rw (r .1, first-append w l (r .0) (r .2), first-whole w l n) (starts-append l (firstCodePoints (w - length (codePoints l)) (r .0)))
 
-pub first-long :
+first-long :
     (w : ℕ) (l v : List ℕ) → utf8 l ≡ true → utf8 v ≡ true → w ≤ length (codePoints l) → startsWith v l ≡ true →
     firstCodePoints w v ≡ firstCodePoints w l
 first-long w l v p q n h =
     let r = split l v p q h in
     let z : w - length (codePoints l) ≡ 0 = omega arith in
     rw (r .1, first-append w l (r .0) (r .2), z, first-none (r .0)) (append-nil (firstCodePoints w l))
+
+-- ---- all of it, as one record
+pub string-cutting : (w : ℕ) → Cutting (λ s. utf8 s ≡ true) (λ s. length (codePoints s)) w (firstCodePoints w)
+string-cutting w = record { prefix = first-prefix w; monotone = first-mono w; whole = first-whole w; short = first-short w; long = first-long w }
