@@ -5,7 +5,7 @@ import model
 from model import SHEET_ROOM, VALUE_ROOM
 
 HOLDS, PROJECT, STRICT_PROJECT, TRANSFORM, TEXT, PROGRAM = range(6)
-Case = collections.namedtuple("Case", "group routine number column transform width first second lent")
+Case = collections.namedtuple("Case", "group routine number column transform width inputs result lent")
 
 
 class Cases:
@@ -18,13 +18,13 @@ class Cases:
         return least + (0, 1, 44)[len(self.all) % 3]
 
     def holds(self, group, sheet, value):
-        self.all.append(Case(group, HOLDS, model.holds(sheet, value), 0, 0, 0, sheet, value, 0))
+        self.all.append(Case(group, HOLDS, model.holds(sheet, value), 0, 0, 0, [sheet, value], b"", 0))
 
     def project(self, group, strict, sheet, lent=None, told=None):
         lent = self.lent(SHEET_ROOM) if lent is None else lent
         number, result = model.project(strict, sheet, lent)
         assert told in (None, (number, result)), (group, sheet, told)
-        self.all.append(Case(group, STRICT_PROJECT if strict else PROJECT, number, 0, 0, 0, sheet, result, lent))
+        self.all.append(Case(group, STRICT_PROJECT if strict else PROJECT, number, 0, 0, 0, [sheet], result, lent))
 
     def both(self, group, sheet, lent=None):
         for strict in (False, True):
@@ -34,10 +34,10 @@ class Cases:
         lent = self.lent(VALUE_ROOM) if lent is None else lent
         number, result = model.transform(column, transform, width, value, lent)
         assert told in (None, (number, result)), (group, column, transform, width, value, told)
-        self.all.append(Case(group, TRANSFORM, number, column, transform, width, value, result, lent))
+        self.all.append(Case(group, TRANSFORM, number, column, transform, width, [value], result, lent))
 
     def program(self, group, sheet, told=None):
         """Its number is that of the first line."""
         printed = model.printed(sheet)
         assert told in (None, printed), (group, sheet, told)
-        self.all.append(Case(group, PROGRAM, int(printed.split()[1]), 0, 0, 0, sheet, printed, 0))
+        self.all.append(Case(group, PROGRAM, int(printed.split()[1]), 0, 0, 0, [sheet], printed, 0))

@@ -25,27 +25,24 @@ GROUPS = {
     17: "where the specification decides",
     18: "program `weighpick`",
 }
-CASE_HEAD, CASE_LENGTHS = struct.Struct("<BBBBBxI"), struct.Struct("<HHH")
+HEADER, INPUTS = struct.Struct("<BBBBBxIHHHHH"), 3
 
 
 def read_cases(path):
     """The cases of a file, texts left out."""
     with open(path, "rb") as file:
-        data = file.read()
-    at = 0
-    while at < len(data):
-        head = CASE_HEAD.unpack_from(data, at)
-        first, second, lent = CASE_LENGTHS.unpack_from(data, at + CASE_HEAD.size)
-        at += CASE_HEAD.size + CASE_LENGTHS.size
-        case = Case(*head, data[at:at + first], data[at + first:at + first + second], lent)
-        at += first + second
-        if case.routine != TEXT:
-            yield case
+        while header := file.read(HEADER.size):
+            *asked, first, second, third, result, lent = HEADER.unpack(header)
+            inputs = [file.read(length) for length in (first, second, third)]
+            case = Case(*asked, inputs, file.read(result), lent)
+            if case.routine != TEXT:
+                yield case
 
 
 def write_case(out, case):
-    out.write(CASE_HEAD.pack(case.group, case.routine, case.number, case.column, case.transform, case.width))
-    out.write(CASE_LENGTHS.pack(len(case.first), len(case.second), case.lent) + case.first + case.second)
+    *asked, inputs, result, lent = case
+    parts = [*inputs, *[b""] * (INPUTS - len(inputs)), result]
+    out.write(HEADER.pack(*asked, *map(len, parts), lent) + b"".join(parts))
 
 
 def write_files(folder, cases):
@@ -58,5 +55,5 @@ def write_files(folder, cases):
             text = f"{GROUPS[group]}, answer {answer}: "
             for case in some:
                 write_case(out, case)
-            write_case(out, Case(group, TEXT, 0, 0, 0, 0, text.encode(), b"", 0))
+            write_case(out, Case(group, TEXT, 0, 0, 0, 0, [text.encode()], b"", 0))
             lines.write(f"{text}{len(some)} right, 0 wrong\n")

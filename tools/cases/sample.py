@@ -10,8 +10,8 @@ def replay(cases, path):
     for case in read_cases(path):
         if case.group not in SAMPLED:
             continue
-        told = (case.number, case.second)
+        asked, told = case.inputs[0], (case.number, case.result)
         if case.routine == TRANSFORM:
-            cases.transform(case.group, case.column, case.transform, case.width, case.first, case.lent, told)
+            cases.transform(case.group, case.column, case.transform, case.width, asked, case.lent, told)
         else:
-            cases.project(case.group, case.routine == STRICT_PROJECT, case.first, case.lent, told)
+            cases.project(case.group, case.routine == STRICT_PROJECT, asked, case.lent, told)

@@ -23,7 +23,8 @@ const FIRST_FILLER: u8 = 165;
 
 const FILLER_STEP: u8 = 7;
 
-// What a case asks beside its two parts: the routine, the number expected, type, transform and width of a transform, and how long a result buffer is lent.
+// What a case asks beside its inputs and its result: the routine, the number expected, type, transform and width of a transform, and how long a result buffer
+// is lent.
 pub struct Question {
     pub routine: u8,
     pub expected: u8,
@@ -102,6 +103,14 @@ fn is_right_within(question: Question, input: &[u8], result: &[u8], space: &mut 
     is_right_in(question, input, result, &mut space[..lent])
 }
 
+// Whether the holds-test gives the number expected; it has no result.
+fn is_held(expected: u8, sheet: &[u8], value: &[u8], result: &[u8]) -> bool {
+    if result.len() != 0 {
+        return false;
+    }
+    holds(sheet, value).number() == expected as u32
+}
+
 // Whether the program prints these bytes for a sheet, and leaves every later byte of its buffer.
 fn is_printed(sheet: &[u8], lines: &[u8]) -> bool {
     let mut out = [0; OUTPUT_SIZE];
@@ -115,14 +124,27 @@ fn is_printed(sheet: &[u8], lines: &[u8]) -> bool {
     is_filled_from(lines.len(), &out)
 }
 
-// Whether a case comes out as expected. The first part is the sheet, or the value to transform; the second is the value for the holds-test, else the result.
-pub fn is_right(question: Question, first: &[u8], second: &[u8]) -> bool {
+// Whether a case comes out as expected. Its inputs are the routine's, in their order; one that the routine does not take has to be empty, so that no case
+// passes with bytes that nothing looked at.
+pub fn is_right(
+    question: Question,
+    first: &[u8],
+    second: &[u8],
+    third: &[u8],
+    result: &[u8],
+) -> bool {
+    if third.len() != 0 {
+        return false;
+    }
     if question.routine == HOLDS_TEST {
-        return holds(first, second).number() == question.expected as u32;
+        return is_held(question.expected, first, second, result);
+    }
+    if second.len() != 0 {
+        return false;
     }
     if question.routine == PROGRAM {
-        return is_printed(first, second);
+        return is_printed(first, result);
     }
     let mut space = io::large_buffer();
-    is_right_within(question, first, second, &mut space)
+    is_right_within(question, first, result, &mut space)
 }

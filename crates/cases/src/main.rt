@@ -11,6 +11,8 @@ ghost use Rattle.io.specs.Counts.{Counts};
 // More cases than there are, so that the run ends whatever it is given.
 const MOST_CASES: u32 = 100000;
 
+const HEADER_SIZE: usize = 20;
+
 // The number in a header of what is no case but a text to print, before the counts of the cases since the last one.
 const TEXT: u8 = 4;
 
@@ -44,35 +46,44 @@ fn read_part(n: usize, buf: &mut [u8]) -> usize
     io::read_full(0, &mut buf[..n])
 }
 
-// Reads a case, its header and its two parts (tools/make-cases says which bytes), and runs it; or prints a text.
+// What a header asks; tools/make-cases says which bytes.
+fn question_of(header: &[u8; HEADER_SIZE]) -> Question {
+    Question {
+        routine: header[1],
+        expected: header[2],
+        column_type: header[3],
+        transform: header[4],
+        width: u32_at(header, 6),
+        lent: u16_at(header, 18) as usize,
+    }
+}
+
+// Reads a case, its header, its three inputs and its result, and runs it; or prints a text.
 fn run() -> Ran {
-    let mut header = [0; 16];
-    if io::read_full(0, &mut header) != 16 {
+    let mut header = [0; HEADER_SIZE];
+    if io::read_full(0, &mut header) != HEADER_SIZE {
         return Ran::End;
     }
-    let routine = header[1];
-    let expected = header[2];
-    let column_type = header[3];
-    let transform = header[4];
-    let width = u32_at(&header, 6);
-    let lent = u16_at(&header, 14) as usize;
     let mut first = io::large_buffer();
     let mut second = io::large_buffer();
-    let n = read_part(u16_at(&header, 10) as usize, &mut first);
-    let m = read_part(u16_at(&header, 12) as usize, &mut second);
-    if routine == TEXT {
-        io::write_all(1, &first[..n]);
+    let mut third = io::large_buffer();
+    let mut result = io::large_buffer();
+    let first_len = read_part(u16_at(&header, 10) as usize, &mut first);
+    let second_len = read_part(u16_at(&header, 12) as usize, &mut second);
+    let third_len = read_part(u16_at(&header, 14) as usize, &mut third);
+    let result_len = read_part(u16_at(&header, 16) as usize, &mut result);
+    let question = question_of(&header);
+    if question.routine == TEXT {
+        io::write_all(1, &first[..first_len]);
         return Ran::Text;
     }
-    let question = Question {
-        routine,
-        expected,
-        column_type,
-        transform,
-        width,
-        lent,
-    };
-    Ran::Case(is_right(question, &first[..n], &second[..m]))
+    Ran::Case(is_right(
+        question,
+        &first[..first_len],
+        &second[..second_len],
+        &third[..third_len],
+        &result[..result_len],
+    ))
 }
 
 // The counts with one more case.

@@ -48,8 +48,8 @@ struct Case {
     routine: u8,
     number: u8,
     head: (u8, u8, u32),
-    first: Vec<u8>,
-    second: Vec<u8>,
+    input: Vec<u8>,
+    result: Vec<u8>,
     lent: usize,
 }
 
@@ -147,7 +147,7 @@ impl Sample {
         self.push(TRANSFORM, head, value_record(&asked.value).to_vec(), answer_to(asked), VALUE_BUFFER);
     }
 
-    fn push(&mut self, routine: u8, head: (u8, u8, u32), first: Vec<u8>, expected: Expected, least: usize) {
+    fn push(&mut self, routine: u8, head: (u8, u8, u32), input: Vec<u8>, expected: Expected, least: usize) {
         let differs = expected.rule.is_some_and(|applied| applied.differs);
         let group = if differs { OF_A_RULE } else { OF_THE_CRATE };
         let lent = least + EXTRA[self.cases.len() % EXTRA.len()];
@@ -156,8 +156,8 @@ impl Sample {
             routine,
             number: expected.answer.number as u8,
             head,
-            first,
-            second: expected.answer.bytes,
+            input,
+            result: expected.answer.bytes,
             lent,
         });
     }
@@ -185,16 +185,16 @@ fn is_wanted(found: &mut Found, expected: &Expected, routine: u8) -> bool {
     wanted
 }
 
-/// A case as tools/make-cases writes it: a header of 16 bytes and two parts.
+/// A case as tools/make-cases writes it: a header of 20 bytes, the one input that these routines take, and the result.
 fn bytes(case: &Case) -> Vec<u8> {
     let (column, transform, width) = case.head;
     let mut bytes = vec![case.group, case.routine, case.number, column, transform, 0];
     bytes.extend(width.to_le_bytes());
-    for length in [case.first.len(), case.second.len(), case.lent] {
+    for length in [case.input.len(), 0, 0, case.result.len(), case.lent] {
         bytes.extend((length as u16).to_le_bytes());
     }
-    bytes.extend(&case.first);
-    bytes.extend(&case.second);
+    bytes.extend(&case.input);
+    bytes.extend(&case.result);
     bytes
 }
 
