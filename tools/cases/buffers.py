@@ -2,8 +2,8 @@
 import itertools
 
 from model import (
-    INT, LONG, TIME, TS, STRING, BINARY, IDENTITY, TRUNCATE, YEAR, DAY, VOID, UNKNOWN, IS_NULL, LT, GT, GE, EQ, IN,
-    value_record,
+    RECORD, CONTENT, LITERALS, SHEET_ROOM, VALUE_ROOM, INT, LONG, TIME, TS, STRING, BINARY, IDENTITY, TRUNCATE, YEAR,
+    DAY, VOID, UNKNOWN, IS_NULL, LT, GT, GE, EQ, IN, value_record,
 )
 
 from .leaves import leaf
@@ -14,7 +14,7 @@ def buffers(cases):
     far = 2**63 - 1
     sheets = [
         leaf(LT, INT, [300], TRUNCATE, 10),  # 0
-        leaf(IN, TS, [-2 * i * per_day(TS) - 1 for i in range(64)], DAY),  # 0, with 8,256 bytes
+        leaf(IN, TS, [-2 * i * per_day(TS) - 1 for i in range(LITERALS)], DAY),  # 0, the longest
         leaf(IS_NULL, STRING, [], VOID),  # 1
         b"",  # 3
         leaf(IS_NULL, INT) + b"\0",  # 3
@@ -24,11 +24,12 @@ def buffers(cases):
         leaf(IS_NULL, INT, [], UNKNOWN),  # 7
         leaf(GT, INT, [2**31 - 1], TRUNCATE, 0),  # 8
     ]
-    for sheet, lent in itertools.product(sheets, (0, 64, 8255, 8256, 8257, 8448)):
+    lengths = (0, VALUE_ROOM, SHEET_ROOM - 1, SHEET_ROOM, SHEET_ROOM + 1, SHEET_ROOM + 3 * RECORD)
+    for sheet, lent in itertools.product(sheets, lengths):
         cases.both(14, sheet, lent)
     values = [
         (INT, TRUNCATE, 10, value_record(INT, -1)),  # 0
-        (STRING, IDENTITY, 0, value_record(STRING, b"z" * 60)),  # 0
+        (STRING, IDENTITY, 0, value_record(STRING, b"z" * CONTENT)),  # 0
         (LONG, VOID, 0, value_record(LONG, 5)),  # 0
         (INT, IDENTITY, 0, b""),  # 3
         (0, IDENTITY, 0, value_record(INT, 0)),  # 3
@@ -38,5 +39,5 @@ def buffers(cases):
         (BINARY, TRUNCATE, 1, value_record(BINARY, b"ab")),  # 7
         (INT, TRUNCATE, 0, value_record(INT, 0)),  # 8
     ]
-    for value, lent in itertools.product(values, (0, 63, 64, 65, 8256)):
+    for value, lent in itertools.product(values, (0, VALUE_ROOM - 1, VALUE_ROOM, VALUE_ROOM + 1, SHEET_ROOM)):
         cases.transform(14, *value, lent)

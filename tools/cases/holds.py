@@ -2,10 +2,13 @@
 import random
 import struct
 
-from model import RECORD, CONTENT, INT, LONG, STRING, BINARY, TYPES, UNARY, ONE_LITERAL, OPERATORS, record, sheet_of
+from model import (
+    RECORD, CONTENT, MISSING, LITERALS, ANSWER_LITERALS, INT, LONG, STRING, BINARY, TYPES, UNARY, ONE_LITERAL,
+    OPERATORS, record, sheet_of,
+)
 
 from .leaves import patched, number, missing_value
-from .values import STRINGS, BROKEN, samples
+from .values import NO_RECORD, STRINGS, BROKEN, samples
 
 
 def holds_tests():
@@ -27,18 +30,19 @@ def holds_tests():
             yield 2, patched(sheet, i, bytes([sheet[i] ^ rng.choice((1, 2, 128))])), value
         for i in range(len(value)):
             yield 2, sheet, patched(value, i, bytes([value[i] ^ rng.choice((1, 128))]))
-    # 3: sizes: nothing, one byte short or over, 65 and 129 records and one more
+    # 3: sizes: nothing, one byte short or over, the most records of either kind of sheet and one more
     one = number(LONG, 7)
-    for n in list(range(0, 4)) + [62, 63, 64, 65, 126, 127, 128, 129, 191, 192]:
-        yield 3, (sheet_of(101, LONG, []) + bytes(192))[:n], record(0, one)
-    for count in (63, 64, 65, 127, 128):
+    around = [*range(RECORD - 2, RECORD + 2), *range(2 * RECORD - 2, 2 * RECORD + 2), 3 * RECORD - 1, 3 * RECORD]
+    for n in [*range(4), *around]:
+        yield 3, (sheet_of(101, LONG, []) + bytes(2 * RECORD))[:n], record(0, one)
+    for count in (LITERALS - 1, LITERALS, LITERALS + 1, ANSWER_LITERALS - 1, ANSWER_LITERALS):
         full = sheet_of(302, LONG, [number(LONG, 3 * i - 200) for i in range(count)])
         for sheet in (full, full[:-1], full + b"\0"):
             yield 3, sheet, record(0, one)
         yield 3, full, record(0, number(LONG, 3 * (count - 1) - 200))
-    yield 3, sheet_of(301, LONG, [one] * 128) + bytes(RECORD), record(0, one)
-    for n in (0, 1, 63, 65, 128):
-        yield 3, sheet_of(101, LONG, []), (record(0, one) + bytes(64))[:n]
+    yield 3, sheet_of(301, LONG, [one] * ANSWER_LITERALS) + bytes(RECORD), record(0, one)
+    for n in NO_RECORD:
+        yield 3, sheet_of(101, LONG, []), (record(0, one) + bytes(RECORD))[:n]
     # 4: the chain: back, to itself, past the end, over records that are ignored
     base = sheet_of(301, INT, [number(INT, z) for z in (1, 2, 3)])
     for at in range(4):
@@ -60,7 +64,7 @@ def holds_tests():
     # 6: lengths and marks
     for column in TYPES:
         bs = samples(column)[4]
-        for n in (0, 3, 4, 5, 7, 8, 9, 59, 60, 61, 255, 65534, 65535):
+        for n in (0, 3, 4, 5, 7, 8, 9, CONTENT - 1, CONTENT, CONTENT + 1, 255, MISSING - 1, MISSING):
             zero = record(0, b"", n)
             yield 6, sheet_of(205, column, [bs])[:RECORD] + zero, record(0, bs)
             yield 6, sheet_of(205, column, [bs]), zero

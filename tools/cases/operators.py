@@ -3,8 +3,8 @@ import itertools
 import random
 
 from model import (
-    INT, LONG, STRING, BINARY, TYPES, IDENTITY, TRUNCATE, VOID, UNKNOWN, TRANSFORMS, UNARY, LT, LE, GT, GE, EQ, NOT_EQ,
-    STARTS, NOT_STARTS, SETS, OPERATORS, range_of,
+    CONTENT, INT, LONG, STRING, BINARY, TYPES, IDENTITY, TRUNCATE, VOID, UNKNOWN, TRANSFORMS, UNARY, LT, LE, GT, GE, EQ,
+    NOT_EQ, STARTS, NOT_STARTS, SETS, OPERATORS, range_of,
 )
 
 from .leaves import leaf, literals_for
@@ -70,7 +70,7 @@ def every_text(cases):
         for text, width in itertools.product(texts, (0, 1, 2, 3)):
             for operator in (STARTS, NOT_STARTS):
                 cases.both(11, leaf(operator, column, [text], TRUNCATE, width))
-        others = itertools.cycle(itertools.product(texts, (*range(4), 60, 2**32 - 1)))
+        others = itertools.cycle(itertools.product(texts, (*range(4), CONTENT, 2**32 - 1)))
         for operator in (LT, LE, GT, GE, EQ, NOT_EQ, *SETS):
             for _ in range(5 if column == STRING else 2):
                 text, width = next(others)

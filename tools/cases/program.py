@@ -1,13 +1,12 @@
 """Group 18: what program `weighpick` prints. Short lines are written out, and the model has to agree; the others are the model's."""
 from model import (
-    RECORD, INT, LONG, DATE, TIME, TS, STRING, BINARY, TYPES, IDENTITY, TRUNCATE, YEAR, DAY, VOID, UNKNOWN, IS_NULL,
-    NOT_NULL, LT, GT, GE, EQ, NOT_EQ, STARTS, IN, NOT_IN, OPERATORS,
+    RECORD, CONTENT, LITERALS, LARGEST_SHEET, INT, LONG, DATE, TIME, TS, STRING, BINARY, TYPES, IDENTITY, TRUNCATE,
+    YEAR, DAY, VOID, UNKNOWN, IS_NULL, NOT_NULL, LT, GT, GE, EQ, NOT_EQ, STARTS, IN, NOT_IN, OPERATORS,
 )
 
 from .leaves import leaf, literals_for
 from .values import edge_literals, per_day
 
-LONGEST = 65 * RECORD
 # Leaf, and what follows the two questions.
 LINES = [
     (leaf(LT, INT, [300], TRUNCATE, 10), "0 202 290", "0 201 300"),  # 01's sample
@@ -45,9 +44,9 @@ LINES = [
     (leaf(GT, STRING, [b"abc"], TRUNCATE, 0), "0 204 -", "0 203 -"),
     (leaf(EQ, BINARY, [b"\x00\x0f\xf0\xff"]), "0 205 000ff0ff", "0 205 000ff0ff"),
     # the longest sheet, and one that is too long
-    (leaf(IS_NULL, INT).ljust(LONGEST, b"\0"), "0 101", "0 101"),
-    (leaf(IS_NULL, INT).ljust(LONGEST + 1, b"\0"), "3", "3"),
-    (b"\0" * (LONGEST + RECORD), "3", "3"),
+    (leaf(IS_NULL, INT).ljust(LARGEST_SHEET, b"\0"), "0 101", "0 101"),
+    (leaf(IS_NULL, INT).ljust(LARGEST_SHEET + 1, b"\0"), "3", "3"),
+    (b"\0" * (LARGEST_SHEET + RECORD), "3", "3"),
 ]
 
 
@@ -57,8 +56,8 @@ def program(cases):
     for operator in OPERATORS:
         for column in TYPES:
             cases.program(18, leaf(operator, column, literals_for(operator, edge_literals(column))))
-    # full sets: 64 strings of 60 bytes, and 64 numbers that give 128
+    # full sets: the longest strings, and numbers, the last of which give twice as many
     for operator in (IN, NOT_IN):
-        cases.program(18, leaf(operator, STRING, [bytes([33 + i]) * 60 for i in range(64)], IDENTITY))
-        cases.program(18, leaf(operator, LONG, [-(2**63) + i for i in range(64)], IDENTITY))
-        cases.program(18, leaf(operator, DATE, [-730 * i - 366 for i in range(64)], YEAR))
+        cases.program(18, leaf(operator, STRING, [bytes([33 + i]) * CONTENT for i in range(LITERALS)], IDENTITY))
+        cases.program(18, leaf(operator, LONG, [-(2**63) + i for i in range(LITERALS)], IDENTITY))
+        cases.program(18, leaf(operator, DATE, [-730 * i - 366 for i in range(LITERALS)], YEAR))

@@ -38,7 +38,8 @@ LOTS = [
     (LT, INT, TRUNCATE, 10, -2147483640, (8,), (0, LT, -2147483640)),
     (LT, INT, TRUNCATE, 10, 300, (0, LE, 290), (0, LT, 300)),
 ]
-# The program's limit: a sheet of so many bytes, IsNull of an Int, and its answer.
+# The program's limit: a sheet of so many bytes, IsNull of an Int, and its answer. In numerals, as 01 has it: the model's sizes
+# are held to it here.
 LENGTHS = [(4160, 0), (4161, 3), (4224, 3)]
 
 

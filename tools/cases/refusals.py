@@ -3,9 +3,9 @@ import itertools
 import struct
 
 from model import (
-    RECORD, MISSING, INT, LONG, DATE, TIME, TS, TSTZ, STRING, BINARY, TYPES, IDENTITY, TRUNCATE, YEAR, MONTH, DAY, HOUR,
-    VOID, UNKNOWN, IS_NULL, NOT_NULL, LT, LE, GT, GE, EQ, ONE_LITERAL, IN, NOT_IN, SETS, FIRST_DAY, LAST_DAY, range_of,
-    record, value_record, sheet_of,
+    RECORD, CONTENT, MISSING, BEFORE_WIDTH, AFTER_WIDTH, LITERALS, LARGEST_SHEET, INT, LONG, DATE, TIME, TS, TSTZ,
+    STRING, BINARY, TYPES, IDENTITY, TRUNCATE, YEAR, MONTH, DAY, HOUR, VOID, UNKNOWN, IS_NULL, NOT_NULL, LT, LE, GT, GE,
+    EQ, ONE_LITERAL, IN, NOT_IN, SETS, FIRST_DAY, LAST_DAY, range_of, record, value_record, sheet_of,
 )
 
 from .leaves import leaf, literals_for, patched, number, missing_value
@@ -24,14 +24,14 @@ def malformed(column, content):
         (4, b"\0"),  # type
         (4, b"\x0b"),
         (5, b"\x08"),  # transform
-        (6, b"\x01"),  # reserved
-        (12, b"\x01"),
-        (63, b"\x01"),
+        (BEFORE_WIDTH[0], b"\x01"),  # reserved
+        (AFTER_WIDTH[0], b"\x01"),
+        (AFTER_WIDTH[-1], b"\x01"),
         (8, b"\x01"),  # a width under Identity
         (RECORD, struct.pack("<H", 1)),  # next to itself
-        (RECORD + 2, struct.pack("<H", 61)),  # length
+        (RECORD + 2, struct.pack("<H", CONTENT + 1)),  # length
         (RECORD + 2, struct.pack("<H", MISSING)),
-        (RECORD + 63, b"\x01"),  # content after the length
+        (2 * RECORD - 1, b"\x01"),  # content after the length
     ):
         yield patched(good, at, new)
     yield patched(pair, 2 * RECORD + 2, struct.pack("<H", MISSING))
@@ -40,7 +40,7 @@ def malformed(column, content):
     yield record(0, b"", MISSING)
     yield good[:-1]
     yield good + b"\0"
-    yield pair.ljust(66 * RECORD, b"\0")
+    yield pair.ljust(LARGEST_SHEET + RECORD, b"\0")
 
 
 def refusals(cases):
@@ -48,7 +48,7 @@ def refusals(cases):
     # 3 before 4, whatever else there is
     for sheet in (*malformed(INT, number(INT, 5)), *malformed(STRING, bad)):
         cases.both(15, sheet)
-    cases.both(15, patched(leaf(IN, STRING, [bad, b"a", b"b"], YEAR), 3 * RECORD + 2, struct.pack("<H", 61)))
+    cases.both(15, patched(leaf(IN, STRING, [bad, b"a", b"b"], YEAR), 3 * RECORD + 2, struct.pack("<H", CONTENT + 1)))
     cases.both(15, patched(leaf(EQ, STRING, [bad], UNKNOWN), 8, b"\x01"))
     cases.transform(15, STRING, IDENTITY, 1, record(0, bad))
     cases.transform(15, STRING, UNKNOWN, 1, record(0, bad))
@@ -96,10 +96,10 @@ def refusals(cases):
             cases.both(15, leaf(operator, column, [], transform, width))
         cases.transform(15, column, transform, width, missing_value())
         cases.transform(15, column, transform, width, value_record(column, literal))
-    # 65 literals: too many to project, and none too many for the holds-test, which judges neither the pair nor the width
-    many = leaf(IN, INT, range(65))
+    # one literal too many to project, and none too many for the holds-test, which judges neither the pair nor the width
+    many = leaf(IN, INT, range(LITERALS + 1))
     cases.both(15, many)
-    cases.holds(15, many, value_record(INT, 64))
+    cases.holds(15, many, value_record(INT, LITERALS))
     for transform, width in ((YEAR, 0), (HOUR, 0), (VOID, 0), (UNKNOWN, 0), (TRUNCATE, 0), (TRUNCATE, 2**32 - 1)):
         for column, z in ((INT, 5), (TIME, -1)):
             cases.holds(15, leaf(LE, column, [z], transform, width), value_record(column, z))

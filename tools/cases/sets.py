@@ -4,8 +4,8 @@ import random
 import struct
 
 from model import (
-    RECORD, INT, LONG, DATE, TS, TSTZ, TSNS, TSTZNS, STRING, BINARY, TYPES, IDENTITY, TRUNCATE, YEAR, MONTH, DAY, HOUR,
-    VOID, UNKNOWN, TRANSFORMS, IN, NOT_IN, SETS, LAST_DAY,
+    RECORD, CONTENT, LITERALS, INT, LONG, DATE, TS, TSTZ, TSNS, TSTZNS, STRING, BINARY, TYPES, IDENTITY, TRUNCATE, YEAR,
+    MONTH, DAY, HOUR, VOID, UNKNOWN, TRANSFORMS, IN, NOT_IN, SETS, LAST_DAY,
 )
 
 from .leaves import leaf, patched
@@ -38,20 +38,20 @@ def sets(cases):
         unit = per_day(column) * {YEAR: 366, MONTH: 31, DAY: 1}[transform]
         for lots in ((-1,), (-1, -2), (-3, -1), (-2, 0), (-1, 1), (1, 0), (-1, -1, -2, -2)):
             needing_t(column, [lot * unit for lot in lots], transform)
-    # sizes to 64, descending and with repeats; 64 literals that give 128
-    for count in (8, 16, 33, 63, 64):
+    # sizes to the most, descending and with repeats; the most literals, that give twice as many
+    for count in (8, 16, 33, LITERALS - 1, LITERALS):
         needing_t(INT, [-7 * (i % 40) for i in range(count)], TRUNCATE, 10)
         needing_t(STRING, ["é".encode() * (i % 3) + bytes([122 - i % 26]) * 5 for i in range(count)], TRUNCATE, 3)
-    full = list(range(64))
+    full = list(range(LITERALS))
     rng.shuffle(full)
     needing_t(DATE, [-730 * i - 366 for i in full], YEAR)
     needing_t(TSTZ, [-70 * i * per_day(TSTZ) - 1 for i in full], MONTH)
     needing_t(TS, [(-2 * i - 1) * per_day(TS) for i in full], DAY)
     needing_t(TSTZ, [(-2 * i - 1) * per_day(TSTZ) for i in full], DAY)
     needing_t(LONG, [-(2**40) * i for i in full], IDENTITY)
-    needing_t(LONG, [5] * 64, IDENTITY)
-    needing_t(STRING, [bytes([97 + i % 26]) * (60 - i % 3) for i in full], IDENTITY)
-    needing_t(BINARY, [bytes([255 - i]) * (i % 61) for i in full], IDENTITY)
+    needing_t(LONG, [5] * LITERALS, IDENTITY)
+    needing_t(STRING, [bytes([97 + i % 26]) * (CONTENT - i % 3) for i in full], IDENTITY)
+    needing_t(BINARY, [bytes([255 - i]) * (i % (CONTENT + 1)) for i in full], IDENTITY)
     # texts that coincide after truncation
     for width in (0, 1, 2, 3):
         needing_t(STRING, [b"abc", b"abd", b"ab", b"a", "éa".encode(), "éb".encode(), "é".encode()], TRUNCATE, width)

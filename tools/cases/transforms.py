@@ -2,12 +2,12 @@
 import itertools
 
 from model import (
-    INT, LONG, STRING, BINARY, TYPES, IDENTITY, TRUNCATE, YEAR, HOUR, VOID, UNKNOWN, TRANSFORMS, is_number, range_of,
-    record, value_record,
+    RECORD, CONTENT, MISSING, INT, LONG, STRING, BINARY, TYPES, IDENTITY, TRUNCATE, YEAR, HOUR, VOID, UNKNOWN, TRANSFORMS,
+    is_number, range_of, record, value_record,
 )
 
 from .leaves import patched, missing_value
-from .values import WIDTHS, BROKEN, NUMBER_PAIRS, TEXTS, ends, moments_of, valid, edge_literals
+from .values import WIDTHS, NO_RECORD, BROKEN, NUMBER_PAIRS, TEXTS, ends, moments_of, valid, edge_literals
 
 
 def transforms(cases):
@@ -34,7 +34,8 @@ def transforms(cases):
                     ask(column, TRUNCATE, width, v)
         for column in (INT, LONG, STRING, BINARY):
             ask(column, TRUNCATE, width, None)
-    for text, width in itertools.product(TEXTS + [b"a" * 60, "é".encode() * 30], (0, 1, 2, 3, 29, 60)):
+    half = CONTENT // len("é".encode())
+    for text, width in itertools.product(TEXTS + [b"a" * CONTENT, "é".encode() * half], (0, 1, 2, 3, half - 1, CONTENT)):
         ask(STRING, TRUNCATE, width, text)
     for i, bs in enumerate(BROKEN):
         for transform in (IDENTITY, (TRUNCATE, YEAR, VOID, UNKNOWN)[i % 4]):
@@ -48,8 +49,9 @@ def transforms(cases):
         cases.transform(13, INT, transform, 1, zero)
     for column in (INT, LONG, STRING, BINARY):
         good = value_record(column, 1 if is_number(column) else b"ab")
-        for at, new in ((0, b"\x01"), (1, b"\x01"), (2, b"\x03"), (2, b"\x3d"), (2, b"\xff\xff"), (3, b"\x01"), (12, b"\x01")):
+        lengths = [(2, n.to_bytes(2, "little")) for n in (3, CONTENT + 1, MISSING)]
+        for at, new in ((0, b"\x01"), (1, b"\x01"), *lengths, (3, b"\x01"), (12, b"\x01")):
             cases.transform(13, column, IDENTITY, 0, patched(good, at, new))
-        cases.transform(13, column, IDENTITY, 0, patched(missing_value(), 63, b"\x01"))
-    for length in (0, 1, 63, 65, 128):
+        cases.transform(13, column, IDENTITY, 0, patched(missing_value(), RECORD - 1, b"\x01"))
+    for length in NO_RECORD:
         cases.transform(13, INT, IDENTITY, 0, zero.ljust(length, b"\0")[:length])

@@ -1,11 +1,12 @@
 """The values that the groups ask about: texts, widths, numbers at the edges of types and lots; and which pairs take them."""
 from model import (
-    INT, LONG, DATE, STRING, TRUNCATE, YEAR, MONTH, DAY, HOUR, MICROS, NANOS, PER_SECOND, FIRST_DAY, LAST_DAY, Refused,
-    is_number, range_of, literal_bytes, result_type, day_number,
+    RECORD, CONTENT, INT, LONG, DATE, STRING, TRUNCATE, YEAR, MONTH, DAY, HOUR, MICROS, NANOS, PER_SECOND, FIRST_DAY,
+    LAST_DAY, Refused, is_number, range_of, literal_bytes, result_type, day_number,
 )
 
 WIDTHS = (0, 1, 2, 10, 2**31 - 1, 2**31, 2**32 - 1)
-STRINGS = [b"", b"a", b"ab", b"abc", b"b", *(s.encode() for s in ("é", "éa", "€", "\U0001F600")), b"\x7f", b"a" * 60]
+NO_RECORD = (0, 1, RECORD - 1, RECORD + 1, 2 * RECORD)  # lengths that no value has
+STRINGS = [b"", b"a", b"ab", b"abc", b"b", *(s.encode() for s in ("é", "éa", "€", "\U0001F600")), b"\x7f", b"a" * CONTENT]
 BROKEN = [b"\x80", b"\xc3", b"\xc0\x80", b"\xc1\xbf", b"\xe0\x9f\x80", b"\xed\xa0\x80", b"\xf0\x8f\x80\x80"]
 BROKEN += [b"\xf4\x90\x80\x80", b"\xf5\x80\x80\x80", b"a\xff", b"\xc3a", b"\xe2\x82"]
 TEXTS = [b"", b"a", "é".encode(), "éa".encode(), "aé".encode(), "€é".encode(), "\U0001F600abc".encode()]

@@ -6,10 +6,10 @@ int and a String or Binary is bytes; a refusal is raised as `Refused` with its n
 
 The parts, the lowest first: codes, sheets, transforms, projections, routines, program."""
 from .codes import (
-    RECORD, CONTENT, MISSING, SHEET_ROOM, VALUE_ROOM, INT, LONG, DATE, TIME, TS, TSTZ, TSNS, TSTZNS, STRING, BINARY,
-    TYPES, IDENTITY, TRUNCATE, YEAR, MONTH, DAY, HOUR, VOID, UNKNOWN, TRANSFORMS, IS_NULL, NOT_NULL, UNARY, LT, LE, GT,
-    GE, EQ, NOT_EQ, STARTS, NOT_STARTS, ONE_LITERAL, IN, NOT_IN, SETS, OPERATORS, MICROS, NANOS, Refused, is_number,
-    range_of, literal_bytes,
+    RECORD, CONTENT, MISSING, BEFORE_WIDTH, AFTER_WIDTH, LITERALS, ANSWER_LITERALS, LARGEST_SHEET, SHEET_ROOM,
+    VALUE_ROOM, INT, LONG, DATE, TIME, TS, TSTZ, TSNS, TSTZNS, STRING, BINARY, TYPES, IDENTITY, TRUNCATE, YEAR, MONTH,
+    DAY, HOUR, VOID, UNKNOWN, TRANSFORMS, IS_NULL, NOT_NULL, UNARY, LT, LE, GT, GE, EQ, NOT_EQ, STARTS, NOT_STARTS,
+    ONE_LITERAL, IN, NOT_IN, SETS, OPERATORS, MICROS, NANOS, Refused, is_number, range_of, literal_bytes,
 )
 from .program import printed
 from .routines import holds, project, transform

@@ -1,7 +1,7 @@
 """Sheets and values as bytes: read with the refusals 3 and 4, and written as answers and as questions."""
 from .codes import (
-    RECORD, CONTENT, MISSING, STRING, TYPES, TRUNCATE, TRANSFORMS, UNARY, SETS, OPERATORS, Refused, need, size,
-    literal_bytes,
+    RECORD, CONTENT_AT, CONTENT, MISSING, RESERVED, STRING, TYPES, TRUNCATE, TRANSFORMS, UNARY, SETS, OPERATORS,
+    Refused, need, size, literal_bytes,
 )
 
 # ---- reading: 3, then 4
@@ -14,8 +14,8 @@ def word(bs, at, n):
 def read_content(record, column):
     n, fixed = word(record, 2, 2), size(column)
     need(n <= CONTENT if fixed is None else n == fixed, 3)
-    need(not any(record[4 + n :]), 3)
-    return bytes(record[4 : 4 + n])
+    need(not any(record[CONTENT_AT + n :]), 3)
+    return bytes(record[CONTENT_AT : CONTENT_AT + n])
 
 
 def check_head(column, transform, width):
@@ -31,7 +31,7 @@ def read_sheet(sheet, most_records):
     operator, column, transform, width = word(head, 2, 2), head[4], head[5], word(head, 8, 4)
     need(operator in OPERATORS, 3)
     check_head(column, transform, width)
-    need(not any(head[6:8]) and not any(head[12:]), 3)
+    need(not any(head[at] for part in RESERVED for at in part), 3)
     literals, at = [], 0
     while following := word(records[at], 0, 2):
         need(at < following < len(records), 3)
@@ -45,7 +45,7 @@ def read_value(value, column):
     """The value's bytes, or None for a missing one."""
     need(len(value) == RECORD and word(value, 0, 2) == 0, 3)
     if word(value, 2, 2) == MISSING:
-        need(not any(value[4:]), 3)
+        need(not any(value[CONTENT_AT:]), 3)
         return None
     return read_content(value, column)
 
