@@ -114,8 +114,9 @@ pub fn all() -> Vec<Kind> {
 
 fn projections() -> Vec<Projections> {
     use Question::{Inclusive, Strict};
+    let [full_in, full_not_in] = ["In", "NotIn"].map(|word| format!("{word}, {LITERALS}"));
     let mut kinds = vec![];
-    let mut put = |setting, operator, questions: &[Question]| {
+    let mut put = |setting, operator: (&str, u16), questions: &[Question]| {
         kinds.extend(questions.iter().map(|question| projection(setting, operator, *question)));
     };
     put(MOMENT_DAY, ("IsNull", operator::IS_NULL), &[Inclusive, Strict]);
@@ -130,8 +131,8 @@ fn projections() -> Vec<Projections> {
         put(setting, ("Eq", operator::EQ), &[Inclusive, Strict]);
     }
     for setting in [INT, MOMENT_DAY, STRING] {
-        put(setting, ("In, 64", operator::IN), &[Inclusive]);
-        put(setting, ("NotIn, 64", operator::NOT_IN), &[Strict]);
+        put(setting, (&full_in, operator::IN), &[Inclusive]);
+        put(setting, (&full_not_in, operator::NOT_IN), &[Strict]);
     }
     kinds
 }

@@ -2,11 +2,18 @@
 //! are kept as the bytes that stand in a record: numbers little-endian, strings and binaries as they are.
 
 use std::cmp::Ordering;
+use std::ops::Range;
 
 /// Bytes of one record.
 pub const RECORD: usize = 64;
-/// Bytes of a record that hold content, after the next index and the length.
-pub const CONTENT: usize = 60;
+/// Where a literal's content starts, after the next index and the length.
+pub const CONTENT_AT: usize = 4;
+/// Bytes of a record that hold content.
+pub const CONTENT: usize = RECORD - CONTENT_AT;
+/// The length that marks a value missing.
+pub const MISSING: u16 = 65535;
+/// The bytes of a head that are zero: before the width and after it.
+pub const RESERVED: [Range<usize>; 2] = [6..8, 12..RECORD];
 /// Literals that a leaf's sheet may hold.
 pub const LITERALS: usize = 64;
 /// Literals that an answer sheet may hold: lifting doubles a set.

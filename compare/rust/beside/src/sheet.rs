@@ -1,10 +1,8 @@
-//! Leaves and values as the bytes of document 01: sheets of 64-byte records, chained by a next index. The comparison's
-//! own reading and writing; it shares nothing with the port.
+//! Leaves and values as the bytes of document 01: sheets of records, chained by a next index. The comparison's own
+//! reading and writing; it shares nothing with the port.
 
-use crate::leaf::{ANSWER_LITERALS, CONTENT, Leaf, RECORD, Value, column, transform};
+use crate::leaf::{ANSWER_LITERALS, CONTENT, CONTENT_AT, Leaf, MISSING, RECORD, Value, column, transform};
 
-/// The length that marks a missing value.
-const MISSING: u16 = 65535;
 /// Where the fields stand in a head (record 0) and in a literal record.
 const NEXT: usize = 0;
 const OPERATOR: usize = 2;
@@ -12,7 +10,6 @@ const COLUMN: usize = 4;
 const TRANSFORM: usize = 5;
 const WIDTH: usize = 8;
 const LENGTH: usize = 2;
-const START: usize = 4;
 
 /// The sheet of a leaf, its literals in records 1, 2, .. as they come.
 pub fn sheet_of(leaf: &Leaf) -> Vec<u8> {
@@ -79,7 +76,7 @@ pub fn value_of(record: &[u8]) -> Option<Value> {
         return None;
     }
     if u16_at(record, LENGTH) == MISSING {
-        return is_zero(&record[START..]).then_some(Value::Missing);
+        return is_zero(&record[CONTENT_AT..]).then_some(Value::Missing);
     }
     content_of(record).map(Value::Present)
 }
@@ -91,7 +88,7 @@ fn is_answer_head(head: &[u8; RECORD]) -> bool {
 /// A literal record's content, if its length is one that a record can hold and zero bytes follow.
 fn content_of(record: &[u8; RECORD]) -> Option<Vec<u8>> {
     let length = usize::from(u16_at(record, LENGTH));
-    let (content, after) = record[START..].split_at_checked(length)?;
+    let (content, after) = record[CONTENT_AT..].split_at_checked(length)?;
     is_zero(after).then(|| content.to_vec())
 }
 
@@ -99,7 +96,7 @@ fn content_of(record: &[u8; RECORD]) -> Option<Vec<u8>> {
 fn put_content(record: &mut [u8], content: &[u8]) {
     let kept = content.len().min(CONTENT);
     put_u16(record, LENGTH, content.len() as u16);
-    record[START..START + kept].copy_from_slice(&content[..kept]);
+    record[CONTENT_AT..CONTENT_AT + kept].copy_from_slice(&content[..kept]);
 }
 
 fn put_u16(bytes: &mut [u8], at: usize, number: u16) {

@@ -1,7 +1,7 @@
 //! Document 01's worked example through both sides, and what `beside` says of the crate.
 
 use beside::crate_side;
-use beside::leaf::{Answer, Leaf, Question, SHEET_BUFFER, Value, column, number, operator, transform};
+use beside::leaf::{Answer, CONTENT, Leaf, Question, RECORD, SHEET_BUFFER, Value, column, number, operator, transform};
 use beside::port;
 use beside::sheet::{predicate_of, sheet_chained, sheet_of, value_of, value_record};
 
@@ -37,24 +37,23 @@ fn strict_is_below_300() {
 
 #[test]
 fn a_sheet_has_document_01s_bytes() {
-    let mut expected = [0; 192];
+    let mut expected = [0; 3 * RECORD];
     expected[0] = 2; // next: the literal stands in record 2, record 1 is off the chain
     expected[2] = 201;
     expected[4] = 1;
     expected[5] = 1;
     expected[8] = 10;
-    expected[130] = 4;
-    expected[132..136].copy_from_slice(&[0x2c, 0x01, 0, 0]);
+    expected[2 * RECORD..][..8].copy_from_slice(&[0, 0, 4, 0, 0x2c, 0x01, 0, 0]);
     assert_eq!(sheet_chained(&example(), &[2]), expected);
 }
 
 #[test]
 fn a_value_record_is_read_back() {
-    for value in [Value::Missing, Value::Present(vec![]), Value::Present(vec![7; 60])] {
+    for value in [Value::Missing, Value::Present(vec![]), Value::Present(vec![7; CONTENT])] {
         assert_eq!(value_of(&value_record(&value)), Some(value));
     }
     let mut dirty = value_record(&Value::Present(vec![7]));
-    dirty[63] = 1;
+    dirty[RECORD - 1] = 1;
     assert_eq!(value_of(&dirty), None);
 }
 

@@ -2,7 +2,7 @@
 //! what is expected. Differences are counted, and the first of them printed.
 
 use beside::crate_side;
-use beside::leaf::{Leaf, Question, SHEET_BUFFER, Value};
+use beside::leaf::{Leaf, Question, RECORD, SHEET_BUFFER, Value};
 use beside::port;
 use beside::sheet::sheet_of;
 
@@ -18,7 +18,7 @@ const WRONG_BYTES: usize = 8;
 /// Bytes behind the longest buffer that is lent, to see that none of them is written.
 const GUARD: usize = 256;
 /// The longest buffer lent: a little more than a projection needs.
-pub const MOST_LENT: usize = SHEET_BUFFER + 64;
+pub const MOST_LENT: usize = SHEET_BUFFER + RECORD;
 /// The seed of what the lent buffer holds before a call.
 const FILLING: u64 = 0x0b0f;
 

@@ -1,19 +1,25 @@
 //! Damaged copies of good sheets and values: bytes changed, fields set to numbers at the edge of their rules, the end
 //! cut off or more put on. What is expected of them is the reader's word, not this module's.
 
-use beside::leaf::RECORD;
+use beside::leaf::{ANSWER_LITERALS, CONTENT, LITERALS, MISSING, RECORD, RESERVED};
 
 use crate::rng::Rng;
 
 /// Numbers for a field of two bytes: lengths, records and operators from both sides of their limits.
-const WORDS: [u16; 32] = [
-    0, 1, 2, 3, 4, 5, 7, 8, 9, 59, 60, 61, 63, 64, 65, 66, 100, 101, 104, 105, 128, 129, 200, 201, 208, 209, 256, 300,
-    301, 302, 65534, 65535,
+#[rustfmt::skip]
+const WORDS: [usize; 32] = [
+    0, 1, 2, 3, 4, 5, 7, 8, 9,
+    CONTENT - 1, CONTENT, CONTENT + 1,
+    LITERALS - 1, LITERALS, LITERALS + 1, LITERALS + 2,
+    100, 101, 104, 105,
+    ANSWER_LITERALS, ANSWER_LITERALS + 1,
+    200, 201, 208, 209, 256, 300, 301, 302,
+    MISSING as usize - 1, MISSING as usize,
 ];
 /// Where a head's and a literal's fields of two bytes stand.
 const FIELDS: [usize; 2] = [0, 2];
 /// The bytes of a record that hold fields; the head's run longest.
-const FIELD_BYTES: usize = 12;
+const FIELD_BYTES: usize = RESERVED[1].start;
 
 /// Damages some bytes in one of several ways.
 pub fn damage(rng: &mut Rng, bytes: &mut Vec<u8>) {
@@ -54,5 +60,6 @@ fn set_word(rng: &mut Rng, bytes: &mut [u8]) {
         return;
     }
     let at = rng.below(bytes.len() / RECORD) * RECORD + rng.pick(&FIELDS);
-    bytes[at..at + 2].copy_from_slice(&rng.pick(&WORDS).to_le_bytes());
+    let word = rng.pick(&WORDS) as u16;
+    bytes[at..at + 2].copy_from_slice(&word.to_le_bytes());
 }

@@ -1,13 +1,12 @@
 //! Document 01's rules on bytes, read a second time: a sheet to the leaf it holds, a value record to its value, or the
 //! refusal, 3 (malformed) or 4 (not UTF-8). It shares nothing with the port, which is held against it.
 
-use beside::leaf::{CONTENT, Leaf, RECORD, Value, column, content_length, number, operator, transform};
+use beside::leaf::{
+    CONTENT, CONTENT_AT, Leaf, MISSING, RECORD, RESERVED, Value, column, content_length, number, operator, transform,
+};
 
-/// The length that marks a value missing.
-const MISSING: usize = 65535;
-
-/// The leaf of a sheet that may have up to `most` literals, so one record more: 64 for a projection, 128 for the
-/// holds-test. Malformed is 3; whether strings are UTF-8 is asked apart, since every 3 comes before any 4.
+/// The leaf of a sheet that may have up to `most` literals, so one record more; the holds-test takes more than a
+/// projection. Malformed is 3; whether strings are UTF-8 is asked apart, since every 3 comes before any 4.
 pub fn sheet(sheet: &[u8], most: usize) -> Result<Leaf, u32> {
     let (records, rest) = sheet.as_chunks::<RECORD>();
     need(rest.is_empty() && records.len() <= 1 + most)?;
@@ -17,7 +16,7 @@ pub fn sheet(sheet: &[u8], most: usize) -> Result<Leaf, u32> {
         Leaf { operator: word(head, 2) as u16, column: head[4], transform: head[5], width, literals: Vec::new() };
     need(operator::ALL.contains(&leaf.operator))?;
     self::head(leaf.column, leaf.transform, leaf.width)?;
-    need(is_zero(&head[6..8]) && is_zero(&head[12..]))?;
+    need(RESERVED.into_iter().all(|part| is_zero(&head[part])))?;
     let mut at = 0;
     while word(&records[at], 0) != 0 {
         let next = word(&records[at], 0);
@@ -48,8 +47,8 @@ pub fn head(column: u8, transform: u8, width: u32) -> Result<(), u32> {
 pub fn value(column: u8, bytes: &[u8]) -> Result<Value, u32> {
     let record: &[u8; RECORD] = bytes.try_into().map_err(|_| number::MALFORMED)?;
     need(word(record, 0) == 0)?;
-    if word(record, 2) == MISSING {
-        need(is_zero(&record[4..]))?;
+    if word(record, 2) == usize::from(MISSING) {
+        need(is_zero(&record[CONTENT_AT..]))?;
         return Ok(Value::Missing);
     }
     content(column, record).map(Value::Present)
@@ -70,8 +69,9 @@ fn content(column: u8, record: &[u8; RECORD]) -> Result<Vec<u8>, u32> {
         Some(fixed) => need(length == fixed)?,
         None => need(length <= CONTENT)?,
     }
-    need(is_zero(&record[4 + length..]))?;
-    Ok(record[4..4 + length].to_vec())
+    let (content, after) = record[CONTENT_AT..].split_at(length);
+    need(is_zero(after))?;
+    Ok(content.to_vec())
 }
 
 fn need(test: bool) -> Result<(), u32> {
@@ -100,9 +100,9 @@ mod tests {
         bytes[RECORD..RECORD + 8].copy_from_slice(&[0, 0, 4, 0, 44, 1, 0, 0]);
         let leaf = Leaf { operator: 201, column: 1, transform: 1, width: 10, literals: vec![vec![44, 1, 0, 0]] };
         assert_eq!(sheet(&bytes, LITERALS), Ok(leaf));
-        for (at, byte) in
-            [(0, 0), (0, 2), (2, 200), (4, 11), (5, 8), (5, 0), (6, 1), (12, 1), (64, 1), (66, 3), (72, 1)]
-        {
+        let in_head = [(0, 0), (0, 2), (2, 200), (4, 11), (5, 8), (5, 0), (6, 1), (12, 1), (RECORD - 1, 1)];
+        let in_literal = [(0, 1), (2, 3), (8, 1), (RECORD - 1, 1)].map(|(at, byte)| (RECORD + at, byte));
+        for (at, byte) in in_head.into_iter().chain(in_literal) {
             let mut damaged = bytes.clone();
             damaged[at] = byte;
             assert_eq!(sheet(&damaged, LITERALS), Err(number::MALFORMED), "byte {at} set to {byte}");

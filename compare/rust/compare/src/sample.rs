@@ -91,7 +91,7 @@ impl Sample {
         }
     }
 
-    /// Sets of 64 literals that all have a partition value, so that their answers are long.
+    /// Sets of the most literals, that all have a partition value, so that their answers are long.
     fn full_sets(&mut self) {
         let kinds = [
             (column::INT, transform::TRUNCATE, operator::IN),
