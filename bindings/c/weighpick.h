@@ -36,14 +36,20 @@ enum weighpick_answer {
 };
 
 /* Sizes, in bytes unless they count literals. */
-#define WEIGHPICK_RECORD 64           /* a record */
-#define WEIGHPICK_CONTENT 60          /* the most content of a record: a String or Binary */
-#define WEIGHPICK_LITERALS 64         /* the most literals of a sheet to be projected */
-#define WEIGHPICK_LARGEST_SHEET 4160  /* the largest sheet to be projected: a head and its literals */
-#define WEIGHPICK_ANSWER_LITERALS 128 /* the most literals of an answer sheet, and of a sheet for the holds-test */
-#define WEIGHPICK_SHEET_BUFFER 8256   /* the least result buffer of a projection */
-#define WEIGHPICK_VALUE_BUFFER 64     /* the least result buffer of one value's transform */
-#define WEIGHPICK_MISSING 65535       /* the length that marks a value as missing */
+#define WEIGHPICK_RECORD 64     /* a record */
+#define WEIGHPICK_LITERALS 64   /* the most literals of a sheet to be projected */
+#define WEIGHPICK_MISSING 65535 /* the length that marks a value as missing */
+
+/* The most content of a record: a String or Binary. */
+#define WEIGHPICK_CONTENT (WEIGHPICK_RECORD - WEIGHPICK_CONTENT_AT)
+/* The largest sheet to be projected: a head and its literals. */
+#define WEIGHPICK_LARGEST_SHEET (WEIGHPICK_RECORD * (1 + WEIGHPICK_LITERALS))
+/* The most literals of an answer sheet, and of a sheet for the holds-test. */
+#define WEIGHPICK_ANSWER_LITERALS (2 * WEIGHPICK_LITERALS)
+/* The least result buffer of a projection. */
+#define WEIGHPICK_SHEET_BUFFER (WEIGHPICK_RECORD * (1 + WEIGHPICK_ANSWER_LITERALS))
+/* The least result buffer of one value's transform. */
+#define WEIGHPICK_VALUE_BUFFER WEIGHPICK_RECORD
 
 /* Where the fields of a record lie; the rest of a record is zero. */
 #define WEIGHPICK_NEXT_AT 0      /* 2 bytes: number of the next record on the chain, above this one's; 0 ends it */
@@ -82,8 +88,8 @@ enum weighpick_type {
     WEIGHPICK_TIMESTAMPTZ = 6,    /* the same, with a time zone */
     WEIGHPICK_TIMESTAMP_NS = 7,   /* 8 bytes: nanoseconds from 1970-01-01 */
     WEIGHPICK_TIMESTAMPTZ_NS = 8, /* the same, with a time zone */
-    WEIGHPICK_STRING = 9,         /* 0 to 60 bytes of UTF-8 */
-    WEIGHPICK_BINARY = 10         /* 0 to 60 bytes */
+    WEIGHPICK_STRING = 9,         /* 0 to WEIGHPICK_CONTENT bytes of UTF-8 */
+    WEIGHPICK_BINARY = 10         /* 0 to WEIGHPICK_CONTENT bytes */
 };
 
 /* Transforms. */

@@ -45,7 +45,8 @@ extern "C" {
     ) -> u32;
 }
 
-/// Memory for a result that goes with the call. It starts with a line of the cache, so that no record lies in two.
+/// Memory for a result that goes with the call. It starts with a line of the cache, of 64 bytes, so that a record lies in as few
+/// of them as it can.
 #[repr(align(64))]
 struct Own<const N: usize>(MaybeUninit<[u8; N]>);
 

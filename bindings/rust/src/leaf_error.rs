@@ -9,11 +9,12 @@ use crate::{PredicateOperator, Type, ValueError};
 /// What stands against a leaf, before the library is asked.
 ///
 /// ```
+/// use weighpick::sheet::CONTENT;
 /// use weighpick::{Leaf, LeafError, Literal, PredicateOperator, Transform};
 ///
-/// let code = Literal::string("0123456789".repeat(7));
+/// let code = Literal::string("7".repeat(CONTENT + 1));
 /// let refused = Leaf::binary(PredicateOperator::Eq, Transform::Identity, &code);
-/// assert_eq!(refused, Err(LeafError::TooLong(70)));
+/// assert_eq!(refused, Err(LeafError::TooLong(CONTENT + 1)));
 /// ```
 #[derive(Clone, Copy, Debug, PartialEq, Eq, Hash)]
 #[non_exhaustive]

@@ -17,7 +17,8 @@ use std::fmt::{self, Display, Formatter};
 #[non_exhaustive]
 #[repr(u32)]
 pub enum Refusal {
-    /// The result buffer is under [`SHEET_BUFFER`](crate::sheet::SHEET_BUFFER) bytes, or under one record for one value.
+    /// The result buffer is under [`SHEET_BUFFER`](crate::sheet::SHEET_BUFFER) bytes, or for one value under
+    /// [`VALUE_BUFFER`](crate::sheet::VALUE_BUFFER).
     BufferTooSmall = 2,
     /// A sheet or value against the rules of its format.
     Malformed = 3,

@@ -3,7 +3,7 @@
 mod support;
 
 use support::sample::Random;
-use weighpick::sheet::CONTENT;
+use weighpick::sheet::{CONTENT, LITERALS};
 use weighpick::{
     Error, Leaf, LeafError, Literal, ParseError, Predicate, PredicateOperator, Refusal, Transform,
     Type, Value, ValueError,
@@ -87,12 +87,12 @@ fn the_words_are_those_of_the_error_inside() {
     let parse: Result<Type, ParseError> = "float".parse();
     let errors: [(Error, String); 4] = [
         (
-            LeafError::TooMany(64).into(),
-            LeafError::TooMany(64).to_string(),
+            LeafError::TooMany(LITERALS).into(),
+            LeafError::TooMany(LITERALS).to_string(),
         ),
         (
-            ValueError::TooLong(61).into(),
-            "a value has 61 bytes, at most 60 fit".to_string(),
+            ValueError::TooLong(CONTENT + 1).into(),
+            format!("a value has {} bytes, at most {CONTENT} fit", CONTENT + 1),
         ),
         (Refusal::Overflow.into(), Refusal::Overflow.to_string()),
         (

@@ -7,15 +7,34 @@ use weighpick::{PredicateOperator, Refusal, Transform, Type};
 
 const HEADER: &str = include_str!("../../c/weighpick.h");
 
-/// The number that the header gives a name, as `NAME = 1,` or `#define NAME 1`.
+/// The number that the header gives a name, as `NAME = 1,` or `#define NAME 1`, with a comment behind it or none.
 fn in_header(name: &str) -> Option<usize> {
     let name = format!("WEIGHPICK_{name}");
     HEADER.lines().find_map(|line| {
         let line = line.trim_start().trim_start_matches("#define ");
         let rest = line.strip_prefix(&name)?.strip_prefix(' ')?;
-        let word = rest.trim_start_matches("= ").split([' ', ',']).next()?;
-        word.parse().ok()
+        let value = rest.split("/*").next()?.trim_start_matches("= ");
+        number(value.trim_end_matches([' ', ',']))
     })
+}
+
+/// A number; the number of a name of the header; or, in brackets, two of them and an operator, the second in brackets or not.
+fn number(text: &str) -> Option<usize> {
+    if let Some(name) = text.strip_prefix("WEIGHPICK_") {
+        return in_header(name);
+    }
+    let Some(text) = text.strip_prefix('(') else {
+        return text.parse().ok();
+    };
+    let mut words = text.strip_suffix(')')?.splitn(3, ' ');
+    let (first, operator) = (number(words.next()?)?, words.next()?);
+    let second = number(words.next()?)?;
+    match operator {
+        "+" => Some(first + second),
+        "-" => Some(first - second),
+        "*" => Some(first * second),
+        _ => None,
+    }
 }
 
 /// A Rust name as C writes it: `LessThan` is `LESS_THAN`.

@@ -1,5 +1,7 @@
 //! What the words say, and what is printed for them.
 
+use weighpick::sheet::{CONTENT, LITERALS};
+
 use super::{ask_for_help, leaf, lines};
 
 /// What is printed for the words of a command line without quotes.
@@ -85,10 +87,11 @@ fn wrong_words_are_named() {
 
 #[test]
 fn limits_are_named() {
-    let long = format!("string identity = {}", "a".repeat(61));
-    assert_eq!(wrong(&long), "a literal has 61 bytes, at most 60 fit");
-    let many = format!("int identity in {}", "7 ".repeat(65));
-    assert_eq!(wrong(&many), "more than 64 literals");
+    let long = format!("string identity = {}", "a".repeat(CONTENT + 1));
+    let expected = format!("a literal has {} bytes, at most {CONTENT} fit", CONTENT + 1);
+    assert_eq!(wrong(&long), expected);
+    let many = format!("int identity in {}", "7 ".repeat(LITERALS + 1));
+    assert_eq!(wrong(&many), format!("more than {LITERALS} literals"));
 }
 
 #[test]
