@@ -82,10 +82,3 @@ sheet most s = do
   literals ← each (λ n. content (layout (h .column)) (recordAt s n)) ns
   leaf ← predicate operator literals
   ok (record { head = h; leaf = leaf })
-
--- the most literals of a sheet to be projected, and of one to be tested
-abbrev pub projectLimit : ℕ
-projectLimit = 64
-
-abbrev pub holdsLimit : ℕ
-holdsLimit = 128

@@ -13,10 +13,10 @@ use Rattle.values.specs.Outcomes.{Res, ok, err}
 use Rattle.values.specs.Types.{Layout, number, bytes, layout}
 use Rattle.values.specs.Transforms.{transformOf}
 use Rattle.values.specs.Words.{leNumber, leBytes, signed, signedBytes}
-use Rattle.expr.specs.Operators.{operatorNumber}
+use Rattle.expr.specs.Operators.{operatorNumber, holdsLimit}
 use Rattle.expr.specs.Predicates.{operatorIn, literalsIn}
 use Rattle.sheet.specs.Records.{content}
-use Rattle.sheet.specs.Sheets.{Sheet, sheet, head, holdsLimit}
+use Rattle.sheet.specs.Sheets.{Sheet, sheet, head}
 
 -- the bytes of a text
 abbrev pub ascii : string.String → List ℕ
