@@ -11,11 +11,11 @@ ghost use Rattle.values.specs.Types.{layout, fits};
 ghost use Rattle.values.specs.Words.{zeroAt};
 
 // The sizes of a record and of its parts, in bytes.
-pub const RECORD_SIZE: usize = 64;
-
 pub const HEADER_SIZE: usize = 4;
 
 pub const CONTENT_SIZE: usize = 60;
+
+pub const RECORD_SIZE: usize = HEADER_SIZE + CONTENT_SIZE;
 
 // The length that marks a value as missing.
 pub const MISSING_MARK: u16 = 65535;

@@ -129,7 +129,7 @@ headIn s = do
   operator ← find operators (word 2 2 s)
   h ← sheets.head (word 4 1 s) (word 5 1 s) (word 8 4 s)
   need (zeroAt 6 2 s) Malformed
-  need (zeroAt 12 (recordSize - 12) s) Malformed
+  need (zeroAt sheets.headSize (recordSize - sheets.headSize) s) Malformed
   ok (record { operator = operator; column = h .column; transform = h .transform })
 
 abbrev pub headResult : Res Head → HeadResult
