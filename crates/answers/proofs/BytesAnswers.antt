@@ -17,13 +17,13 @@ use Rattle.values.specs.declared.transform.Transform.{Transform}
 use Rattle.values.specs.declared.transform.Transform.the-variants.{Identity}
 use Rattle.values.proofs.transform.Transform as transforms
 use Rattle.partition.specs.ResultType.{resultType}
+use Rattle.expr.specs.Operators.{holdsLimit}
 use Rattle.expr.specs.declared.operator.PredicateOperator.{PredicateOperator}
 use Rattle.strings.specs.code.Prefixes.{bytesProjected, NoLonger, OneLiteral}
 use Rattle.strings.specs.declared.steps.BytesProjection.{BytesProjection}
 use Rattle.strings.specs.declared.steps.BytesProjection.the-variants.{Prefix, Err}
 use Rattle.sheet.specs.code.ReadAnswers.{Parts, partsAt}
 use Rattle.sheet.specs.Records.{recordSize}
-use Rattle.sheet.specs.Sheets.{holdsLimit}
 use Rattle.write.specs.Written.{answerBytes}
 use Rattle.sets.specs.laws.FilledLaws.{parts-length}
 use Rattle.sets.specs.code.Sets.{collected, FilledParts}
@@ -85,7 +85,7 @@ module _ (found : Res (List (List ℕ))) {r : Collected} (said : r ≡ collected
         let m = rw (← k .2) at (filled .members (k .0) (k .1)) in
         (k .1 ∙ ap ok (sym (m .0)), m .1)
 
-    pub collected-few : length set ≡ holdsLimit → n ≤ 128
+    pub collected-few : length set ≡ holdsLimit → n ≤ holdsLimit
     collected-few size = omega (arith, collected-parts .1 .room, size)
 
     pub collected-written : (to : PrimitiveType) (o : PredicateOperator) {before after : List ℕ}

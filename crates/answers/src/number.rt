@@ -2,6 +2,7 @@
 use crate::answer::Answer;
 use crate::answer::RECORD;
 use crate::leaf::Leaf;
+use expr::operator::HOLDS_LIMIT;
 use expr::operator::PredicateOperator;
 use numbers::steps::NumberProjection;
 use numbers::steps::is_lifted;
@@ -94,7 +95,7 @@ pub fn project_set(x: Leaf, s: &[u8], records: &[u16], out: &mut [u8]) -> Answer
     let transform = x.transform;
     let to = x.to;
     let lifts = lifts_set(question, column, transform);
-    let mut set = [0; 128];
+    let mut set = [0; HOLDS_LIMIT];
     match project_set_expr(s, records, x.count, column, transform, lifts, &mut set) {
         Collected::Err(e) => Answer::Err(e),
         Collected::Count(n) => {

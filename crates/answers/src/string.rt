@@ -2,10 +2,12 @@
 use crate::answer::Answer;
 use crate::answer::RECORD;
 use crate::leaf::Leaf;
+use expr::operator::HOLDS_LIMIT;
 use sets::number::Collected;
 use sets::string::project_set_expr;
 use sheet::literal::content_of;
 use sheet::literal::record_of;
+use sheet::records::PROJECT_RECORDS;
 use strings::steps::BytesProjection;
 use strings::steps::project_bytes;
 use values::datatypes::PrimitiveType;
@@ -76,8 +78,8 @@ pub fn project_set(x: Leaf, s: &[u8], records: &[u16], out: &mut [u8]) -> Answer
     let column = x.column;
     let transform = x.transform;
     let to = x.to;
-    let mut sizes = [0; 65];
-    let mut set = [0; 128];
+    let mut sizes = [0; PROJECT_RECORDS];
+    let mut set = [0; HOLDS_LIMIT];
     match project_set_expr(s, records, x.count, column, transform, &mut sizes, &mut set) {
         Collected::Err(e) => Answer::Err(e),
         Collected::Count(n) => {

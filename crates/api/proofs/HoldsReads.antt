@@ -6,7 +6,7 @@ use lib.ListN.{length, take}
 use Rattle.values.specs.Outcomes.{Res, ok, err, _>>=_, Row}
 use Rattle.values.specs.Types.{layout}
 use Rattle.values.specs.declared.error.ErrorKind.{ErrorKind}
-use Rattle.expr.specs.Operators.{byArity}
+use Rattle.expr.specs.Operators.{byArity, holdsLimit}
 use Rattle.expr.specs.Predicates.{operatorIn, literalsIn}
 use Rattle.sheet.specs.code.ReadAnswers.{contentAt, sheetResult}
 use Rattle.sheet.specs.Records.{value}
@@ -22,12 +22,12 @@ use Rattle.meets.specs.declared.held.Held.{Held}
 use Rattle.meets.specs.declared.held.Held.the-variants.{Err}
 use Rattle.api.specs.HoldsTest.{holdsTest}
 
-pub no-sheet : (s v : List ℕ) (r : SheetResult) (e : ErrorKind) → r ≡ sheetResult (sheets.sheet sheets.holdsLimit s) → r ≡ sheet-result.Err e
+pub no-sheet : (s v : List ℕ) (r : SheetResult) (e : ErrorKind) → r ≡ sheetResult (sheets.sheet holdsLimit s) → r ≡ sheet-result.Err e
     → Err e ≡ heldAs (holdsTest s v)
 unfolding holdsTest
-no-sheet s v r e d is = rw (sheet-refused sheets.holdsLimit s d is)
+no-sheet s v r e d is = rw (sheet-refused holdsLimit s d is)
 
-module _ {s records : List ℕ} {y : Sheet} (t : SheetTold sheets.holdsLimit s records y) where
+module _ {s records : List ℕ} {y : Sheet} (t : SheetTold holdsLimit s records y) where
   pub value-tested : (v : List ℕ) {r : Held}
       → r ≡ heldAs (valueHeld (y .head .column) (byArity (y .head .operator)) (map (contentAt s) (take (y .count) records)) v)
       → r ≡ heldAs (holdsTest s v)

@@ -8,7 +8,7 @@ use lib.ListN.{length}
 use Rattle.values.specs.laws.OutcomeLaws.{going}
 use Rattle.values.specs.Outcomes.{err, _>>=_}
 use Rattle.values.specs.declared.error.ErrorKind.{ErrorKind}
-use Rattle.expr.specs.Operators.{none, one, many, byArity}
+use Rattle.expr.specs.Operators.{none, one, many, byArity, projectLimit}
 use Rattle.expr.specs.code.OperatorAnswers.{takes}
 use Rattle.expr.specs.laws.PredicateLaws.{arity-of}
 use Rattle.expr.specs.Predicates.{Predicate, unary, test, binary, set, operatorIn, literalsIn}
@@ -16,7 +16,7 @@ use Rattle.projection.specs.declared.question.Question.{Question}
 use Rattle.sheet.specs.code.ReadAnswers.{contentsAt}
 use Rattle.sheet.specs.laws.ResultLaws.{SheetTold, placed-told}
 use Rattle.sheet.specs.laws.SheetLaws.{sheet-read}
-use Rattle.sheet.specs.Sheets.{sheet, projectLimit}
+use Rattle.sheet.specs.Sheets.{sheet}
 use Rattle.sheet.specs.declared.sheet.Sheet.{Sheet}
 use Rattle.answers.specs.Answers.{projectedLeaf}
 use Rattle.answers.specs.code.Settled.{Settled}

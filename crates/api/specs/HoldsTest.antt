@@ -4,8 +4,9 @@ use mathlib.Core.Bool.{Bool}
 use mathlib.Core.List.{List}
 use Rattle.values.specs.Outcomes.{Res, _>>=_}
 use Rattle.values.specs.Types.{layout}
+use Rattle.expr.specs.Operators.{holdsLimit}
 use Rattle.sheet.specs.Records.{value}
-use Rattle.sheet.specs.Sheets.{sheet, holdsLimit}
+use Rattle.sheet.specs.Sheets.{sheet}
 use Rattle.meets.specs.Tested.{testedSheet}
 
 -- 01: "The holds-test takes a sheet of up to 129 records, with up to 128 literals after 301 or 302, and one value of the sheet's type; it checks the head's

@@ -6,10 +6,11 @@ use lib.Dec.{ltb}
 use lib.ListN.{length}
 use Rattle.values.specs.Outcomes.{Res, _>>=_}
 use Rattle.values.specs.Types.{layout}
+use Rattle.expr.specs.Operators.{projectLimit}
 use Rattle.projection.specs.Steps.{Projected}
 use Rattle.projection.specs.declared.question.Question.{Question}
 use Rattle.sheet.specs.Records.{recordSize, value}
-use Rattle.sheet.specs.Sheets.{head, sheet, projectLimit}
+use Rattle.sheet.specs.Sheets.{head, sheet}
 use Rattle.answers.specs.Answers.{projectedLeaf, transformedRow, asResult, answerOf, leftOf}
 use Rattle.answers.specs.declared.answer.Answer.{Answer}
 use Rattle.answers.specs.declared.answer.Answer.the-variants.{BufferTooSmall}

@@ -1,7 +1,7 @@
 // The holds-test: whether a value meets a sheet's leaf, or a partition value an answer sheet's predicate.
+use expr::operator::HOLDS_LIMIT;
 use meets::held::Held;
 use meets::test::test_value;
-use sheet::records::HOLDS_LIMIT;
 use sheet::sheet::SheetResult;
 use sheet::sheet::read_sheet;
 ghost use mathlib.Core.Path.{_≡_};

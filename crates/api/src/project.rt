@@ -1,9 +1,9 @@
 // The two projections of a sheet: the Rust's `Transform::project` and `strict_project` (src/spec/transform.rs), over bytes.
 use answers::answer::Answer;
 use answers::project::project_leaf;
+use expr::operator::HOLDS_LIMIT;
+use expr::operator::PROJECT_LIMIT;
 use projection::question::Question;
-use sheet::records::HOLDS_LIMIT;
-use sheet::records::PROJECT_LIMIT;
 use sheet::records::RECORD_SIZE;
 use sheet::sheet::SheetResult;
 use sheet::sheet::read_sheet;

@@ -22,6 +22,7 @@ use Rattle.partition.specs.Partition.{bytesPartition}
 use Rattle.partition.specs.code.PartitionAnswers.{OfPresent}
 use Rattle.partition.specs.laws.PartitionLaws.{listed-to}
 use Rattle.partition.specs.ResultType.{truncatable, withDays, withHours, resultType}
+use Rattle.expr.specs.Operators.{projectLimit, holdsLimit}
 use Rattle.expr.specs.Holds.{bytesTests}
 use Rattle.expr.specs.Predicates.{Predicate, literalsIn}
 use Rattle.projection.specs.laws.LeafDemand.{HeldIn}
@@ -30,7 +31,6 @@ use Rattle.projection.specs.laws.LiteralLaws.{Landed}
 use Rattle.projection.specs.Projection.{projectBytes}
 use Rattle.projection.specs.Steps.{some}
 use Rattle.projection.specs.declared.question.Question.{Question}
-use Rattle.sheet.specs.Sheets.{projectLimit, holdsLimit}
 use Rattle.sheet.specs.Values.{readBytes}
 use Rattle.meets.specs.Tested.{testedSheet}
 use Rattle.answers.specs.Kinds.{byteStrings}

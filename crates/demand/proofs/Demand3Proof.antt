@@ -15,6 +15,7 @@ use Rattle.values.specs.laws.TypesLaws.{type-number}
 use Rattle.values.specs.declared.datatypes.PrimitiveType.{PrimitiveType}
 use Rattle.values.specs.declared.transform.Transform.{Transform}
 use Rattle.partition.specs.Partition.{bytesPartition}
+use Rattle.expr.specs.Operators.{projectLimit}
 use Rattle.expr.specs.Predicates.{Predicate, literalsIn}
 use Rattle.projection.specs.laws.LeafDemand as over-values
 use Rattle.projection.specs.laws.LeafDemand.{HeldIn}
@@ -22,7 +23,7 @@ use Rattle.projection.specs.laws.LeafDemandLaws.{bytes-no-row-lost, bytes-stric
 use Rattle.projection.specs.Steps.{some}
 use Rattle.projection.specs.declared.question.Question.{Question}
 use Rattle.projection.specs.declared.question.Question.the-variants.{Inclusive, Strict}
-use Rattle.sheet.specs.Sheets.{Head, head, sheet, projectLimit}
+use Rattle.sheet.specs.Sheets.{Head, head, sheet}
 use Rattle.api.specs.Demand3.{typeIn, transformIn, widthIn, Returns, Accepts, RowOf, NoRowLost, StrictIsSafe, Numeric, StrictIsExact, InclusiveIsExact, Demand3}
 use Rattle.sheet.specs.Values.{byLayout}
 use Rattle.answers.specs.Kinds.{Kind, numbers, byteStrings}

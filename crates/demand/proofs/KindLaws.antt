@@ -10,6 +10,7 @@ use Rattle.values.specs.Types.{layout}
 use Rattle.values.specs.declared.datatypes.PrimitiveType.{PrimitiveType}
 use Rattle.values.specs.declared.transform.Transform.{Transform}
 use Rattle.partition.specs.ResultType.{resultType}
+use Rattle.expr.specs.Operators.{projectLimit, holdsLimit}
 use Rattle.expr.specs.Holds.{Tests}
 use Rattle.expr.specs.Predicates.{Predicate}
 use Rattle.partition.specs.code.PartitionAnswers.{OfPresent}
@@ -17,7 +18,7 @@ use Rattle.projection.specs.laws.LiteralLaws.{Landed}
 use Rattle.projection.specs.Steps.{Projected, some, none, mapped}
 use Rattle.projection.specs.declared.question.Question.{Question}
 use Rattle.sheet.specs.Records.{value}
-use Rattle.sheet.specs.Sheets.{head, sheet, projectLimit, holdsLimit}
+use Rattle.sheet.specs.Sheets.{head, sheet}
 use Rattle.sheet.specs.Values.{eachLiteral, readRow, mapRow, mapLiterals}
 use Rattle.write.specs.Written.{valueRecord, answerSheet}
 use Rattle.api.specs.Demand3.{typeIn, transformIn, widthIn, RowOf}

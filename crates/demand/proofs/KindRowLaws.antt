@@ -11,6 +11,7 @@ use Rattle.values.specs.Outcomes.{Res, ok, Row}
 use Rattle.values.specs.laws.OutcomeLaws.{ok-inj}
 use Rattle.values.specs.declared.datatypes.PrimitiveType.{PrimitiveType}
 use Rattle.values.specs.declared.transform.Transform.{Transform}
+use Rattle.expr.specs.Operators.{projectLimit, holdsLimit}
 use Rattle.expr.specs.Holds.{holds}
 use Rattle.partition.specs.code.PartitionAnswers.{OfPresent}
 use Rattle.projection.specs.laws.LeafDemand as over-values
@@ -19,7 +20,6 @@ use Rattle.projection.specs.declared.question.Question.{Question}
 use Rattle.sheet.specs.laws.RecordLaws.{value-read}
 use Rattle.sheet.specs.Records.{recordSize}
 use Rattle.sheet.specs.laws.SheetLaws.{Read, sheet-read, wider}
-use Rattle.sheet.specs.Sheets.{projectLimit, holdsLimit}
 use Rattle.api.specs.Demand3.{RowOf, Accepts, SomeRow, AllRows}
 use Rattle.api.specs.HoldsTest.{holdsTest}
 use Rattle.answers.specs.Kinds.{Kind}

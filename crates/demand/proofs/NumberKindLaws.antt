@@ -24,6 +24,7 @@ use Rattle.partition.specs.code.PartitionAnswers.{InType}
 use Rattle.partition.specs.Partition.{known}
 use Rattle.partition.specs.laws.PartitionLaws.{listed-to}
 use Rattle.partition.specs.ResultType.{truncatable, withDays, withHours, resultType}
+use Rattle.expr.specs.Operators.{projectLimit, holdsLimit}
 use Rattle.expr.specs.Holds.{numberTests}
 use Rattle.expr.specs.Predicates.{Predicate}
 use Rattle.projection.specs.Lifting.{lifted}
@@ -33,7 +34,6 @@ use Rattle.projection.specs.laws.ProjectionLaws.{course}
 use Rattle.projection.specs.Projection.{numberStep, projectNumbers}
 use Rattle.projection.specs.Steps.{some}
 use Rattle.projection.specs.declared.question.Question.{Question}
-use Rattle.sheet.specs.Sheets.{projectLimit, holdsLimit}
 use Rattle.sheet.specs.Values.{readNumber}
 use Rattle.write.specs.Written.{numberBytes}
 use Rattle.meets.specs.Tested.{testedSheet}
@@ -86,7 +86,7 @@ number-values column n is = record {
 }
 
 -- ---- the kind
--- at most 64 literals come to at most 128
+-- at most `projectLimit` literals come to at most `holdsLimit`
 pub number-literals : (question : Question) (column to : PrimitiveType) (transform : Transform) → resultType transform column ≡ ok to → (l p : Predicate ℤ)
     → Landed (InType column) projectLimit l → projectNumbers question column transform l ≡ ok (some p) → Landed (InType to) holdsLimit p
 number-literals question column to transform result l p h e =

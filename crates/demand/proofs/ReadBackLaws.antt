@@ -13,6 +13,7 @@ use Rattle.values.specs.Types.{layout, fits}
 use Rattle.values.specs.declared.datatypes.PrimitiveType.{PrimitiveType}
 use Rattle.values.specs.declared.transform.Transform.{Transform}
 use Rattle.values.specs.declared.transform.Transform.the-variants.{Identity}
+use Rattle.expr.specs.Operators.{holdsLimit}
 use Rattle.expr.specs.Holds.{Tests, holds}
 use Rattle.expr.specs.Predicates.{Predicate, unary, test, binary, set, literalsIn}
 use Rattle.partition.specs.code.PartitionAnswers.{OfPresent}
@@ -21,7 +22,7 @@ use Rattle.sheet.specs.laws.RecordLaws.{FitsRow}
 use Rattle.write.specs.laws.RoundTripLaws.{value-back}
 use Rattle.sheet.specs.Records.{recordSize, value}
 use Rattle.sheet.specs.laws.SheetLaws.{Fits}
-use Rattle.sheet.specs.Sheets.{Sheet, sheet, holdsLimit}
+use Rattle.sheet.specs.Sheets.{Sheet, sheet}
 use Rattle.sheet.specs.Values.{eachLiteral, readRow, mapRow, mapLiterals}
 use Rattle.write.specs.Written.{valueRecord, answerSheet}
 use Rattle.write.specs.laws.WrittenLaws.{length-answer, answer-back}

@@ -40,11 +40,18 @@ pub data Binary : Type 0 where
 pub data SetOperator : Type 0 where
   isIn notIn : SetOperator
 
--- an operator, told by how many literals it takes. 01: "101–104 take no literal, 201–208 one, 301–302 from 0 to 64"; the 64 is `Sheets.projectLimit`
+-- an operator, told by how many literals it takes. 01: "101–104 take no literal, 201–208 one, 301–302 from 0 to 64"
 pub data Operator : Type 0 where
   none : Unary → Operator
   one : Binary → Operator
   many : SetOperator → Operator
+
+-- that 64, the most literals of a sheet to be projected; and the most of one to be tested, 01: "up to 128 literals after 301 or 302"
+abbrev pub projectLimit : ℕ
+projectLimit = 64
+
+abbrev pub holdsLimit : ℕ
+holdsLimit = 128
 
 abbrev pub byArity : PredicateOperator → Operator
 byArity IsNull = none isNull

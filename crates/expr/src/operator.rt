@@ -5,6 +5,11 @@ ghost use Rattle.values.specs.Numbered.{find};
 ghost use Rattle.expr.specs.Operators.{operators, operatorNumber, byArity};
 ghost use Rattle.expr.specs.code.OperatorAnswers.{negated, takesNone, takesMany, operatorResult};
 
+// The most literals of a sheet to be projected, and of one to be tested.
+pub const PROJECT_LIMIT: usize = 64;
+
+pub const HOLDS_LIMIT: usize = 128;
+
 pub enum PredicateOperator {
     // Unary operators.
     IsNull,

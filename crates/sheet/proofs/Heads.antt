@@ -22,7 +22,7 @@ use Rattle.expr.specs.declared.operator.OperatorResult.{OperatorResult}
 use Rattle.expr.specs.declared.operator.PredicateOperator.{PredicateOperator}
 use Rattle.sheet.specs.code.ReadAnswers.{headIn, headResult}
 use Rattle.sheet.specs.Records.{recordSize}
-use Rattle.sheet.specs.Sheets.{head}
+use Rattle.sheet.specs.Sheets.{headSize, head}
 use Rattle.sheet.specs.declared.head.HeadResult.the-variants as head-result
 
 -- ---- what the code's enums tell of the definitions
@@ -68,11 +68,11 @@ module _ (s : List ℕ) {operator : PredicateOperator} {column : PrimitiveType} 
   not-reserved z = rw (is-operator, is-type, is-transform, z)
 
   module _ (reserved : zeroAt 6 2 s ≡ true) where
-    pub not-rest : zeroAt 12 (recordSize - 12) s ≡ false → head-result.Err Malformed ≡ headResult (headIn s)
+    pub not-rest : zeroAt headSize (recordSize - headSize) s ≡ false → head-result.Err Malformed ≡ headResult (headIn s)
     unfolding headIn head
     not-rest z = rw (is-operator, is-type, is-transform, reserved, z)
 
-    pub head-read : zeroAt 12 (recordSize - 12) s ≡ true
+    pub head-read : zeroAt headSize (recordSize - headSize) s ≡ true
         → head-result.Ok (record { operator = operator; column = column; transform = transform }) ≡ headResult (headIn s)
     unfolding headIn head
     head-read z = rw (is-operator, is-type, is-transform, reserved, z)

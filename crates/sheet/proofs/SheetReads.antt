@@ -13,12 +13,12 @@ use Rattle.values.specs.Outcomes.{Res, ok, err, _>>=_}
 use Rattle.values.specs.Types.{layout}
 use Rattle.values.specs.declared.error.ErrorKind.{ErrorKind}
 use Rattle.values.specs.declared.error.ErrorKind.the-variants.{Malformed}
-use Rattle.expr.specs.Operators.{byArity}
+use Rattle.expr.specs.Operators.{byArity, holdsLimit}
 use Rattle.expr.specs.code.OperatorAnswers.{takes}
 use Rattle.sheet.specs.code.ReadAnswers.{contentAt, malformedChain, walkedAs, Stored, headIn, headResult, sheetResult, LiteralsRead, recordsFrom}
 use Rattle.sheet.specs.Records.{recordSize, recordCount}
 use Rattle.sheet.specs.laws.SheetStepLaws.{withChain, sheet-steps, Made, predicate-made, predicate-refused}
-use Rattle.sheet.specs.Sheets.{Sheet, sheet, holdsLimit}
+use Rattle.sheet.specs.Sheets.{Sheet, sheet}
 use Rattle.sheet.specs.laws.RefusalLaws.{OnlyMalformed}
 use Rattle.sheet.specs.laws.WalkLaws.{walk-malformed, walk-few, walk-literals}
 use Rattle.sheet.specs.declared.head.Head.{Head}

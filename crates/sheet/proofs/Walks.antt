@@ -15,10 +15,10 @@ use Rattle.values.specs.Outcomes.{Res, ok, err, _>>=_}
 use Rattle.values.specs.laws.TestLaws.{refuted, and-both}
 use Rattle.values.specs.Types.{Layout}
 use Rattle.values.specs.Words.{word}
+use Rattle.expr.specs.Operators.{holdsLimit}
 use Rattle.sheet.specs.code.ReadAnswers.{isOk, malformedChain, literalAfter, walkedAs, Stored, recordsFrom}
 use Rattle.sheet.specs.laws.PartLaws.{next-here}
 use Rattle.sheet.specs.Records.{recordSize, recordCount, nextIn, content, recordAt}
-use Rattle.sheet.specs.Sheets.{holdsLimit}
 use Rattle.sheet.specs.laws.WalkLaws.{Next, After, walk-ends, walk-breaks}
 
 -- ---- the returns of `literal_after`, by the next that it reads

@@ -50,6 +50,10 @@ past-the-last = refl
 
 -- ---- the head
 
+-- the bytes up to the last of the fields; 01: "8–11 width; the rest zero"
+abbrev pub headSize : ℕ
+headSize = 12
+
 pub record Head : Type 0 where
   pub column : PrimitiveType
   pub transform : Transform
@@ -77,15 +81,8 @@ sheet most s = do
   operator ← find operators (word 2 2 s)
   h ← head (word 4 1 s) (word 5 1 s) (word 8 4 s)
   need (zeroAt 6 2 s) Malformed
-  need (zeroAt 12 (recordSize - 12) s) Malformed
+  need (zeroAt headSize (recordSize - headSize) s) Malformed
   ns ← chain (recordCount s) s 0
   literals ← each (λ n. content (layout (h .column)) (recordAt s n)) ns
   leaf ← predicate operator literals
   ok (record { head = h; leaf = leaf })
-
--- the most literals of a sheet to be projected, and of one to be tested
-abbrev pub projectLimit : ℕ
-projectLimit = 64
-
-abbrev pub holdsLimit : ℕ
-holdsLimit = 128

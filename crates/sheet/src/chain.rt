@@ -1,15 +1,15 @@
 // The walk along the chain of a sheet's records.
 use crate::literal::is_literal;
-use crate::records::HOLDS_LIMIT;
 use crate::records::RECORD_SIZE;
+use expr::operator::HOLDS_LIMIT;
 use values::datatypes::PrimitiveType;
 use values::words::u16_at;
 ghost use mathlib.Core.Path.{_≡_};
 ghost use Prim.Native.Nat.{suc, _*_, _≤_, _<_};
 ghost use lib.ListN.{length};
 ghost use Rattle.values.specs.Types.{layout};
+ghost use Rattle.expr.specs.Operators.{holdsLimit};
 ghost use Rattle.sheet.specs.Records.{recordSize, recordCount};
-ghost use Rattle.sheet.specs.Sheets.{holdsLimit};
 ghost use Rattle.sheet.specs.code.ReadAnswers.{literalAfter, walkedAs, Stored, recordsFrom};
 
 // What stands for a malformed chain: more literals than any sheet has.
@@ -38,7 +38,7 @@ fn literal_after(s: &[u8], column: PrimitiveType, at: usize) -> usize
 
 // The literals after record `at` on its chain: each is tested, and its number goes into `records`, after the first `filled`.
 // Gives their count, the first `filled` included: a plain number, since an enum would be copied at every step.
-// Two at each call: a processor predicts only so many returns, and one call for each of 64 literals would be too deep.
+// Two at each call: a processor predicts only so many returns, and one call for each literal would be too deep.
 pub fn walk(s: &[u8], column: PrimitiveType, at: usize, filled: usize, records: &mut [u16]) -> usize
     requires { ⌜ length (now s) ≤ recordSize * suc holdsLimit ⌝ }
     requires { ⌜ at < recordCount (now s) ⌝ }

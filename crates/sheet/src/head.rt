@@ -1,4 +1,5 @@
 // The head of a sheet: operator, column type and transform.
+use crate::records::RECORD_SIZE;
 use crate::records::zeros;
 use expr::operator::OperatorResult;
 use expr::operator::PredicateOperator;
@@ -14,6 +15,9 @@ ghost use Prim.Native.Nat.{_≤_};
 ghost use lib.ListN.{length};
 ghost use Rattle.sheet.specs.Records.{recordSize};
 ghost use Rattle.sheet.specs.code.ReadAnswers.{headIn, headResult};
+
+// The bytes of the fields, with the two among them that are reserved; the rest of the record is reserved too.
+pub const HEAD_SIZE: usize = 12;
 
 pub struct Head {
     pub operator: PredicateOperator,
@@ -44,7 +48,7 @@ pub fn read_head(s: &[u8]) -> HeadResult
         TransformResult::Err(e) => return HeadResult::Err(e),
     };
     if zeros(s, 6, 2) {
-        if zeros(s, 12, 52) {
+        if zeros(s, HEAD_SIZE, RECORD_SIZE - HEAD_SIZE) {
             return HeadResult::Ok(Head {
                 operator,
                 column,

@@ -1,4 +1,5 @@
 // Records: their sizes, how many a sheet has, runs of zero bytes, and the lengths that a type allows.
+use expr::operator::PROJECT_LIMIT;
 use values::datatypes::PrimitiveType;
 use values::words::u16_at;
 use values::words::u32_at;
@@ -10,19 +11,17 @@ ghost use Rattle.values.specs.Types.{layout, fits};
 ghost use Rattle.values.specs.Words.{zeroAt};
 
 // The sizes of a record and of its parts, in bytes.
-pub const RECORD_SIZE: usize = 64;
-
 pub const HEADER_SIZE: usize = 4;
 
 pub const CONTENT_SIZE: usize = 60;
 
+pub const RECORD_SIZE: usize = HEADER_SIZE + CONTENT_SIZE;
+
 // The length that marks a value as missing.
 pub const MISSING_MARK: u16 = 65535;
 
-// The most literals of a sheet to be projected, and of one to be tested.
-pub const PROJECT_LIMIT: usize = 64;
-
-pub const HOLDS_LIMIT: usize = 128;
+// The most records of a sheet to be projected: its head and its literals.
+pub const PROJECT_RECORDS: usize = PROJECT_LIMIT + 1;
 
 // Fewer than eight bytes: four, then two, then one, with no loop.
 fn few_zeros(s: &[u8], at: usize, n: usize) -> bool

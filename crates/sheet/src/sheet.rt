@@ -11,7 +11,7 @@ ghost use mathlib.Core.Path.{_≡_};
 ghost use Prim.Native.Nat.{_≤_};
 ghost use lib.ListN.{length};
 ghost use Rattle.values.specs.Outcomes.{ok};
-ghost use Rattle.expr.specs.Operators.{byArity};
+ghost use Rattle.expr.specs.Operators.{byArity, holdsLimit};
 ghost use Rattle.expr.specs.code.OperatorAnswers.{takes};
 ghost use Rattle.sheet.specs.Sheets as sheets;
 ghost use Rattle.sheet.specs.code.ReadAnswers.{sheetResult, LiteralsRead};
@@ -42,8 +42,8 @@ fn takes_count(operator: PredicateOperator, count: usize) -> bool
 
 // A sheet with at most so many literals; the numbers of their records go into `records`, in the order of the chain.
 pub fn read_sheet(s: &[u8], most: usize, records: &mut [u16]) -> SheetResult
-    requires { ⌜ most ≤ sheets.holdsLimit ⌝ }
-    requires { ⌜ length (now records) ≡ sheets.holdsLimit ⌝ }
+    requires { ⌜ most ≤ holdsLimit ⌝ }
+    requires { ⌜ length (now records) ≡ holdsLimit ⌝ }
     ensures { λ r. ⌜ r ≡ sheetResult (sheets.sheet most (now (s .entry))) ⌝ }
     ensures { λ r. ⌜ ((x : sheets.Sheet) → sheets.sheet most (now (s .entry)) ≡ ok x → LiteralsRead (now (s .entry)) (now (records .exit)) x) ⌝ }
 {

@@ -5,7 +5,7 @@ use mathlib.Core.Path.{_≡_, sym, ap, _∙_}
 use Rattle.values.specs.Outcomes.{ok}
 use Rattle.values.specs.Types.{layout}
 use Rattle.values.specs.declared.error.ErrorKind.{ErrorKind}
-use Rattle.expr.specs.Operators.{operatorNumber}
+use Rattle.expr.specs.Operators.{operatorNumber, holdsLimit}
 use Rattle.expr.specs.Predicates.{operatorIn}
 use Rattle.sheet.specs.code.ReadAnswers.{contentsAt, Placed, sheetResult, LiteralsRead}
 use Rattle.sheet.specs.laws.ResultLaws.{sheet-refused, SheetTold, sheet-told, placed-told}
@@ -24,18 +24,18 @@ pub record PredicateRead (s records : List ℕ) (y : Sheet) : Type 0 where
   pub placed : Placed (layout (y .head .column)) s records (y .count)
   pub words : answerWords s ≡ readWords s records y
 
-told-words : {s records : List ℕ} {y : Sheet} → SheetTold sheets.holdsLimit s records y → answerWords s ≡ readWords s records y
+told-words : {s records : List ℕ} {y : Sheet} → SheetTold holdsLimit s records y → answerWords s ≡ readWords s records y
 told-words {s} {records} t =
     ap wordsRead (t .is)
     ∙ ap (λ (ls : List (List ℕ)). digits (operatorNumber (operatorIn (t .x .leaf))) ∷ map (literalText (layout (t .x .head .column))) ls) (t .literals .literals)
     ∙ ap (readWords s records) (sym (t .same))
 
-module _ (s : List ℕ) {r : SheetResult} (d : r ≡ sheetResult (sheets.sheet sheets.holdsLimit s)) where
+module _ (s : List ℕ) {r : SheetResult} (d : r ≡ sheetResult (sheets.sheet holdsLimit s)) where
   pub predicate-read : {records : List ℕ} {y : Sheet}
-      → ((x : sheets.Sheet) → sheets.sheet sheets.holdsLimit s ≡ ok x → LiteralsRead s records x) → r ≡ sheet-result.Ok y → PredicateRead s records y
+      → ((x : sheets.Sheet) → sheets.sheet holdsLimit s ≡ ok x → LiteralsRead s records x) → r ≡ sheet-result.Ok y → PredicateRead s records y
   predicate-read literals is =
-      let t = sheet-told sheets.holdsLimit s d literals is in
+      let t = sheet-told holdsLimit s d literals is in
       record { placed = placed-told t; words = told-words t }
 
   pub no-predicate : {e : ErrorKind} → r ≡ sheet-result.Err e → answerWords s ≡ []
-  no-predicate is = ap wordsRead (sheet-refused sheets.holdsLimit s d is)
+  no-predicate is = ap wordsRead (sheet-refused holdsLimit s d is)

@@ -8,15 +8,15 @@ use mathlib.Core.List.{List, [], _∷_, _++_, map}
 use mathlib.Core.Path.{_≡_, refl}
 use lib.Dec.{ltb}
 use lib.IntN.{ℤ, pos, negsuc}
-use lib.ListN.{replicate}
 use Rattle.values.specs.Outcomes.{Res, ok, err}
 use Rattle.values.specs.Types.{Layout, number, bytes, layout}
 use Rattle.values.specs.Transforms.{transformOf}
-use Rattle.values.specs.Words.{leNumber, leBytes, signed, signedBytes}
-use Rattle.expr.specs.Operators.{operatorNumber}
+use Rattle.values.specs.Words.{leNumber, signed, signedBytes}
+use Rattle.expr.specs.Operators.{operatorNumber, holdsLimit}
 use Rattle.expr.specs.Predicates.{operatorIn, literalsIn}
 use Rattle.sheet.specs.Records.{content}
-use Rattle.sheet.specs.Sheets.{Sheet, sheet, head, holdsLimit}
+use Rattle.sheet.specs.Sheets.{Sheet, sheet, head}
+use Rattle.write.specs.Written.{headRecord, literalRecord}
 
 -- the bytes of a text
 abbrev pub ascii : string.String → List ℕ
@@ -111,7 +111,7 @@ answerLine question n answer = line question (digits n ∷ afterZero n (answerWo
 
 -- the answer sheet of Int ≤ 290
 abbrev at-most-290 : List ℕ
-at-most-290 = leBytes 2 1 ++ leBytes 2 202 ++ leBytes 1 1 ++ replicate 59 0 ++ leBytes 2 0 ++ leBytes 2 4 ++ signedBytes 4 (pos 290) ++ replicate 56 0
+at-most-290 = headRecord 1 202 1 ++ literalRecord 0 (signedBytes 4 (pos 290))
 
 examples : (answerLine (ascii "inclusive") 0 at-most-290 ≡ ascii "inclusive 0 202 290\n") × (answerLine (ascii "strict") 8 [] ≡ ascii "strict 8\n")
 unfolding answerLine digits sheet head transformOf content

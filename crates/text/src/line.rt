@@ -2,10 +2,10 @@
 use crate::decimal::put_decimal;
 use crate::decimal::put_digits;
 use crate::hexadecimal::put_hexadecimal;
+use expr::operator::HOLDS_LIMIT;
 use sheet::literal::content_of;
 use sheet::literal::number_of;
 use sheet::literal::record_of;
-use sheet::records::HOLDS_LIMIT;
 use sheet::sheet::SheetResult;
 use sheet::sheet::read_sheet;
 use values::datatypes::PrimitiveType;

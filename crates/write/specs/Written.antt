@@ -7,11 +7,10 @@ use Rattle.values.specs.Outcomes.{Row, missing, present}
 use Rattle.values.specs.Types.{Layout, number, bytes, contentSize, typeNumber}
 use Rattle.values.specs.Words.{leBytes, signedBytes}
 use Rattle.values.specs.declared.datatypes.PrimitiveType.{PrimitiveType}
-use Rattle.expr.specs.Operators.{operatorNumber}
+use Rattle.expr.specs.Operators.{operatorNumber, holdsLimit}
 use Rattle.expr.specs.Predicates.{Predicate, operatorIn, literalsIn}
 use Rattle.expr.specs.declared.operator.PredicateOperator.{PredicateOperator}
 use Rattle.sheet.specs.Records.{recordSize, missingMark}
-use Rattle.sheet.specs.Sheets.{holdsLimit}
 
 -- 01: "Literal: 0–1 next; 2–3 length; 4–63 content, zero after the length"
 abbrev pub literalRecord : ℕ → List ℕ → List ℕ
@@ -47,6 +46,6 @@ abbrev pub numberBytes : Layout → ℤ → List ℕ
 numberBytes (number n) z = signedBytes n z
 numberBytes (bytes n) z = []
 
--- 01, answer 2: "result buffer under 8,256 bytes": the longest sheet, a head and 128 literals
+-- 01, answer 2: "result buffer under 8,256 bytes": the longest sheet, a head and `holdsLimit` literals
 abbrev pub sheetBuffer : ℕ
 sheetBuffer = recordSize * suc holdsLimit

@@ -15,9 +15,9 @@ ghost use lib.ListN.{length, take};
 ghost use Rattle.values.specs.code.Places.{AllOf};
 ghost use Rattle.values.specs.Types.{contentSize, layout, inType};
 ghost use Rattle.values.specs.Words.{over};
+ghost use Rattle.expr.specs.Operators.{holdsLimit};
 ghost use Rattle.sheet.specs.code.ReadAnswers.{Parts, partsAt};
 ghost use Rattle.sheet.specs.Records.{recordSize};
-ghost use Rattle.sheet.specs.Sheets.{holdsLimit};
 ghost use Rattle.write.specs.Written.{literalRecords, answerBytes, numberBytes};
 ghost use Rattle.write.specs.code.Parts.{partRecords};
 

@@ -13,7 +13,7 @@ use Rattle.values.specs.declared.datatypes.PrimitiveType.{PrimitiveType}
 use Rattle.values.specs.declared.transform.Transform.{Transform}
 use Rattle.values.specs.declared.transform.Transform.the-variants.{Identity, Truncate, Year, Month, Day, Hour, Void, Unknown}
 use Rattle.partition.specs.ResultType.{resultType}
-use Rattle.expr.specs.Operators.{Operator, none, one, many, isIn, notIn, byArity}
+use Rattle.expr.specs.Operators.{Operator, none, one, many, isIn, notIn, byArity, projectLimit}
 use Rattle.expr.specs.code.OperatorAnswers.{takesOne, takes}
 use Rattle.expr.specs.Predicates.{Test, Predicate, unary, test, binary, set}
 use Rattle.expr.specs.declared.operator.PredicateOperator.{PredicateOperator}
@@ -26,7 +26,6 @@ use Rattle.projection.specs.declared.question.Question.{Question}
 use Rattle.projection.specs.declared.question.Question.the-variants.{Inclusive, Strict}
 use Rattle.sheet.specs.code.ReadAnswers.{Placed, contentsAt, numbersAt}
 use Rattle.sheet.specs.Records.{recordSize}
-use Rattle.sheet.specs.Sheets.{projectLimit}
 use Rattle.write.specs.Written.{answerSheet, numberBytes, sheetBuffer}
 use Rattle.sheet.specs.Values.{byLayout, mapLiterals}
 use Rattle.sheet.specs.declared.head.Head.{Head}

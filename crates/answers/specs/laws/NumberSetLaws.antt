@@ -17,7 +17,7 @@ use Rattle.values.specs.declared.error.ErrorKind.{ErrorKind}
 use Rattle.values.specs.declared.transform.Transform.{Transform}
 use Rattle.values.specs.declared.transform.Transform.the-variants.{Identity, Truncate, Year, Month, Day, Hour, Void, Unknown}
 use Rattle.partition.specs.code.PartitionAnswers.{InType}
-use Rattle.expr.specs.Operators.{Operator, SetOperator, none, one, many, isIn, notIn, byArity, operatorOf}
+use Rattle.expr.specs.Operators.{Operator, SetOperator, none, one, many, isIn, notIn, byArity, operatorOf, holdsLimit}
 use Rattle.expr.specs.code.OperatorAnswers.{takesMany}
 use Rattle.expr.specs.laws.PredicateLaws.{operator-of}
 use Rattle.expr.specs.Predicates.{Predicate, test, set}
@@ -134,7 +134,7 @@ module _ {x : Leaf} {s records out : List ℕ} (column : NumberColumn (x .column
         number-set-lands lifts (x .column) (x .transform) literals is-found (x .to) (ready .result) inside
 
     -- the array's first numbers are few, and of the result type
-    pub set-few : n ≤ 128
+    pub set-few : n ≤ holdsLimit
     set-few = omega (arith, count-is, filled .members zs is-found .1)
 
     pub set-inside : AllOf (InType (x .to)) (take n array)

@@ -7,11 +7,11 @@ use mathlib.Core.Path.{_≡_, refl, ap}
 use Rattle.values.specs.Outcomes.{Res, ok, err, errorNumber}
 use Rattle.values.specs.Types.{layout}
 use Rattle.values.specs.declared.error.ErrorKind.{ErrorKind}
-use Rattle.expr.specs.Operators.{byArity}
+use Rattle.expr.specs.Operators.{byArity, holdsLimit}
 use Rattle.expr.specs.Predicates.{operatorIn, literalsIn}
 use Rattle.sheet.specs.Records.{value}
 use Rattle.sheet.specs.laws.RefusalLaws.{Only, OnlyMalformed, only-bind, value-only, sheet-only}
-use Rattle.sheet.specs.Sheets.{sheet, holdsLimit}
+use Rattle.sheet.specs.Sheets.{sheet}
 use Rattle.meets.specs.laws.HeldLaws.{Refusal, tested-held, held-only}
 use Rattle.meets.specs.Tested.{testedSheet, heldAs, heldNumber}
 use Rattle.api.specs.HoldsTest.{holdsTest}

@@ -11,7 +11,7 @@ use Rattle.values.specs.Outcomes.{Res, ok, err, need, _>>=_, _>>_, Row, missing
 use Rattle.values.specs.Types.{Layout, number, bytes, layout, contentSize, fits, inRange}
 use Rattle.values.specs.Words.{leNumber, field, word, zeroAt, signed}
 use Rattle.values.specs.declared.error.ErrorKind.the-variants.{Malformed}
-use Rattle.expr.specs.Operators.{operators}
+use Rattle.expr.specs.Operators.{operators, holdsLimit}
 use Rattle.expr.specs.Predicates.{operatorIn, literalsIn}
 use Rattle.sheet.specs.Records.{headerSize, recordSize, recordCount, recordAt, nextIn, lengthIn, content}
 use Rattle.sheet.specs.Sheets as sheets
@@ -85,7 +85,7 @@ partsAt s sizes records count = map (partAt s sizes) (take count records)
 
 -- what stands for a malformed chain: more literals than any sheet has
 abbrev pub malformedChain : ℕ
-malformedChain = suc sheets.holdsLimit
+malformedChain = suc holdsLimit
 
 -- the number of the literal after record `at` on its chain: 0 where the chain ends, and `malformedChain` where it is broken
 unfoldable pub literalAfter : Layout → List ℕ → ℕ → ℕ
@@ -129,7 +129,7 @@ headIn s = do
   operator ← find operators (word 2 2 s)
   h ← sheets.head (word 4 1 s) (word 5 1 s) (word 8 4 s)
   need (zeroAt 6 2 s) Malformed
-  need (zeroAt 12 (recordSize - 12) s) Malformed
+  need (zeroAt sheets.headSize (recordSize - sheets.headSize) s) Malformed
   ok (record { operator = operator; column = h .column; transform = h .transform })
 
 abbrev pub headResult : Res Head → HeadResult

@@ -20,7 +20,7 @@ use Rattle.expr.specs.Predicates.{Predicate, predicate, literalsIn}
 use Rattle.expr.specs.declared.operator.PredicateOperator.{PredicateOperator}
 use Rattle.sheet.specs.Records.{recordSize, recordCount, recordAt, nextIn, content}
 use Rattle.sheet.specs.laws.RecordLaws.{content-fits, content-bytes, field-bytes}
-use Rattle.sheet.specs.Sheets.{chain, head, Head, Sheet, sheet}
+use Rattle.sheet.specs.Sheets.{chain, headSize, head, Head, Sheet, sheet}
 use Rattle.expr.specs.laws.PredicateLaws.{predicate-parts}
 
 -- every literal has a length that the type allows
@@ -124,7 +124,7 @@ module _ (most : ℕ) (s : List ℕ) where
       let o = gone (find operators (word 2 2 s)) _ (short .1) in
       let h = gone (head (word 4 1 s) (word 5 1 s) (word 8 4 s)) _ (o .2) in
       let a = passed (zeroAt 6 2 s) Malformed _ (h .2) in
-      let b = passed (zeroAt 12 (recordSize - 12) s) Malformed _ (a .1) in
+      let b = passed (zeroAt headSize (recordSize - headSize) s) Malformed _ (a .1) in
       let r = gone (chain (recordCount s) s 0) _ (b .1) in
       let c = gone (each (λ n. content (layout (h .0 .column)) (recordAt s n)) (r .0)) _ (r .2) in
       let l = gone (predicate (o .0) (c .0)) _ (c .2) in

@@ -20,7 +20,7 @@ use Rattle.expr.specs.Predicates.{Predicate, unary, test, binary, set, operator
 use Rattle.expr.specs.declared.operator.PredicateOperator.{PredicateOperator}
 use Rattle.sheet.specs.code.ReadAnswers.{contentAt, headIn, recordsFrom}
 use Rattle.sheet.specs.Records.{recordSize, recordCount, recordAt, content}
-use Rattle.sheet.specs.Sheets.{chain, head, Sheet, sheet}
+use Rattle.sheet.specs.Sheets.{chain, headSize, head, Sheet, sheet}
 use Rattle.sheet.specs.laws.WalkLaws.{literals-follow}
 use Rattle.sheet.specs.declared.head.Head.{Head}
 
@@ -47,14 +47,14 @@ through (err d) b y z f g k e = refl
 
 module _ (s : List ℕ) where
   after-size : (find operators (word 2 2 s) >>= λ o. head (word 4 1 s) (word 5 1 s) (word 8 4 s) >>= λ h.
-      need (zeroAt 6 2 s) Malformed >> (need (zeroAt 12 (recordSize - 12) s) Malformed >>
+      need (zeroAt 6 2 s) Malformed >> (need (zeroAt headSize (recordSize - headSize) s) Malformed >>
       (chain (recordCount s) s 0 >>= λ ns. each (λ n. content (layout (h .column)) (recordAt s n)) ns >>= λ ls.
       predicate o ls >>= λ leaf. ok (record { head = h; leaf = leaf }))))
       ≡ (headIn s >>= withChain s)
   unfolding headIn
   after-size =
-      through (find operators (word 2 2 s)) (head (word 4 1 s) (word 5 1 s) (word 8 4 s)) (zeroAt 6 2 s) (zeroAt 12 (recordSize - 12) s) _ (withChain s) _
-      (λ o h. literals-follow (layout (h .column)) s 0 _)
+      through (find operators (word 2 2 s)) (head (word 4 1 s) (word 5 1 s) (word 8 4 s)) (zeroAt 6 2 s) (zeroAt headSize (recordSize - headSize) s)
+      _ (withChain s) _ (λ o h. literals-follow (layout (h .column)) s 0 _)
 
   pub sheet-steps : (most : ℕ) → sheet most s
       ≡ (need (ltb 0 (length s)) Malformed >> (need (eqb (length s % recordSize) 0) Malformed >>

@@ -14,13 +14,14 @@ use Rattle.values.specs.Outcomes.{Res, ok, err, need, each, _>>=_, _>>_}
 use Rattle.values.specs.Types.{Layout, layout}
 use Rattle.values.specs.declared.datatypes.PrimitiveType.{PrimitiveType}
 use Rattle.values.specs.declared.error.ErrorKind.the-variants.{Malformed}
+use Rattle.expr.specs.Operators.{holdsLimit}
 use Rattle.sheet.specs.code.ReadAnswers.{isOk, contentAt, LiteralAt, malformedChain, literalAfter, allLiterals, holdLiterals, recordsFrom}
 use Rattle.sheet.specs.laws.RecordLaws.{fits-room}
 use Rattle.sheet.specs.laws.PartLaws.{content-by, content-fits}
 use Rattle.sheet.specs.Records.{recordSize, recordCount, nextIn, lengthIn, content, recordAt}
 use Rattle.sheet.specs.laws.RefusalLaws.{only-ok, only-bind, OnlyMalformed, must, chain-only}
 use Rattle.sheet.specs.laws.SheetLaws.{Rising, none, higher, rising-few, chain-enough, chain-rises}
-use Rattle.sheet.specs.Sheets.{holdsLimit, chain}
+use Rattle.sheet.specs.Sheets.{chain}
 
 -- ---- one law a step
 

@@ -1,15 +1,17 @@
 -- Laws of what the program prints: that it fits its buffer, and what a sheet that is too long prints. Assumes nothing.
-use Prim.Native.Nat.{ℕ, _%_, _≤_, _<_}
+use Prim.Native.Nat.{ℕ, suc, _*_, _%_, _≤_, _<_}
 use native.Mathlib.Omega.{arith}
 use mathlib.Core.Bool.{Bool, true, false}
 use mathlib.Core.List.{List}
-use mathlib.Core.Path.{_≡_, refl}
+use mathlib.Core.Path.{_≡_, refl, sym, _∙_}
 use lib.Dec.{eqb}
-use lib.ListN.{length, length-append}
+use lib.ListN.{length, length-append, take}
+use lib.Seq.{length-take-le}
 use borrow.Author.Tests.{lt-ltb, lt-leb}
 use Rattle.values.specs.Outcomes.{Res, ok, err, errorNumber, need, _>>_}
 use Rattle.values.specs.declared.error.ErrorKind.{ErrorKind}
 use Rattle.values.specs.declared.error.ErrorKind.the-variants.{Malformed, NotUtf8, NoResultType, DataInvalid, FeatureUnsupported, Overflow}
+use Rattle.expr.specs.Operators.{projectLimit}
 use Rattle.projection.specs.Steps.{Projected, some, none}
 use Rattle.projection.specs.declared.question.Question.{Question}
 use Rattle.projection.specs.declared.question.Question.the-variants.{Inclusive, Strict}
@@ -50,11 +52,16 @@ refused-either-way : (test : Bool) → _≡_ {A = Res Sheet} (need test Malforme
 refused-either-way true = refl
 refused-either-way false = refl
 
-too-long : (question : Question) (input : List ℕ) → 4160 < length input → projectSheet question input ≡ err Malformed
+too-long : (question : Question) (input : List ℕ) → recordSize * suc projectLimit < length input → projectSheet question input ≡ err Malformed
 unfolding projectSheet sheet
 too-long question input h =
-    rw (lt-ltb 0 (length input) (omega arith), lt-leb (length input) 4160 h, refused-either-way (eqb (length input % recordSize) 0))
+    rw (lt-ltb 0 (length input) (omega arith), lt-leb (length input) (recordSize * suc projectLimit) h, refused-either-way (eqb (length input % recordSize) 0))
 
-pub over-4160 : (input : List ℕ) → 4160 < length input → printed input ≡ ascii "inclusive 3\nstrict 3\n"
+pub over-the-longest : (input : List ℕ) → recordSize * suc projectLimit < length input → printed input ≡ ascii "inclusive 3\nstrict 3\n"
 unfolding printed answerLine digits
-over-4160 input h = rw (too-long Inclusive input h, too-long Strict input h)
+over-the-longest input h = rw (too-long Inclusive input h, too-long Strict input h)
+
+-- so the first n bytes, where they are more than the longest sheet has, print what all of them print
+pub cut-prints-the-same : (n : ℕ) (input : List ℕ) → recordSize * suc projectLimit < n → n ≤ length input → printed (take n input) ≡ printed input
+cut-prints-the-same n input more h =
+    over-the-longest (take n input) (omega (arith, length-take-le n input h, more)) ∙ sym (over-the-longest input (omega arith))

@@ -14,11 +14,11 @@ use Rattle.values.specs.Types.{number, layout, contentSize, fits, half}
 use Rattle.values.specs.Words.{leNumber, signed}
 use Rattle.values.specs.declared.datatypes.PrimitiveType.{PrimitiveType}
 use Rattle.values.specs.declared.datatypes.PrimitiveType.the-variants.{Int, Long, Date, Time, Timestamp, Timestamptz, TimestampNs, TimestamptzNs, String, Binary}
-use Rattle.expr.specs.Operators.{operatorNumber}
+use Rattle.expr.specs.Operators.{operatorNumber, holdsLimit}
 use Rattle.expr.specs.Predicates.{operatorIn, literalsIn}
 use Rattle.expr.specs.declared.operator.PredicateOperator.{PredicateOperator}
 use Rattle.expr.specs.declared.operator.PredicateOperator.the-variants as operator
-use Rattle.sheet.specs.Sheets.{Sheet, sheet, holdsLimit}
+use Rattle.sheet.specs.Sheets.{Sheet, sheet}
 use Rattle.sheet.specs.laws.SheetLaws.{Fits, sheet-read}
 use Rattle.text.specs.Text.{digit, digitsWithin, digits, decimal, hexDigits, hexadecimal, literalText, literalsText, wordsRead, answerWords}
 use Rattle.text.specs.Text.{spaced, afterZero, answerLine}

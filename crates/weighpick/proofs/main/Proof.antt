@@ -16,13 +16,12 @@ pub main-spec : {M : Type 1} → statement M
 main-spec =
     tie.close
     (tie.spec
-    (λ c κs. search needs)
-    (λ c. search needs)
-    (λ c κs. search needs)
-    (λ c. search needs)
-    (λ c. search needs)
-    (λ c κs. search needs)
+    (search needs)
+    (search needs)
+    (search needs)
+    (search needs)
+    (search needs)
     array-share-prefix-out
     slice-aggregate-write-all
-    (λ c κs. search needs)
-    (λ c. search needs))
+    (search needs)
+    (search needs))

@@ -6,6 +6,7 @@ use mathlib.Core.Path.{_≡_, sym, ap, _∙_}
 use denote.Ref.{now}
 use borrow.Author.Needs.{needs}
 use Rattle.values.specs.code.TypeResults.{isBytes}
+use Rattle.expr.specs.Operators.{holdsLimit}
 use Rattle.sets.specs.code.Sets.{collected, Filled}
 use Rattle.answers.specs.laws.NumberSetLaws.{setAt, set-refused, set-few, set-inside, set-written}
 use Rattle.answers.proofs.number.project_set.Statement.{statement}
@@ -24,7 +25,7 @@ module _ (c : tie.After-project-set-expr) where
 project-set-expr-requires : tie.Need-project-set-expr-requires
 project-set-expr-requires c κs = let h = ap isBytes (c .before .before .before .before .before .pre .0 .is) in search needs
 
-few : (c : tie.After-n) → c .n .given .0 .0 ≤ 128
+few : (c : tie.After-n) → c .n .given .0 .0 ≤ holdsLimit
 few c =
     let e = c .before .before in
     let p = e .before .before .before .before .before .before .pre in

@@ -4,6 +4,7 @@ use native.Mathlib.Omega.{arith}
 use mathlib.Core.Path.{refl, sym, ap, _∙_}
 use denote.Ref.{now}
 use borrow.Author.Needs.{needs}
+use Rattle.expr.specs.Operators.{holdsLimit}
 use Rattle.answers.specs.laws.BytesLeafLaws.{setWritten, setAt, set-steps}
 use Rattle.answers.specs.laws.SettledLaws.{settled-as, settled-refused}
 use Rattle.answers.proofs.BytesAnswers.{collected-refused, collected-parts, collected-few, collected-written}
@@ -22,7 +23,7 @@ slice-aggregate-put-strings-2 : tie.Need-slice-aggregate-put-strings-2
 slice-aggregate-put-strings-2 c = sym (c .before .before .before .before .before .before .project-set-expr .ensures .1 .1 .1)
 
 -- the array has room for the set
-few : (k : tie.After-n) → k .n .given .0 .0 ≤ 128
+few : (k : tie.After-n) → k .n .given .0 .0 ≤ holdsLimit
 few k =
     let call = k .before .before in
     let a = call .before .before .before .before .before .before .args in

@@ -1,8 +1,8 @@
 -- `project::project_sheet` meets its contract: the buffer, then the sheet, then its leaf. Assumes nothing.
 use denote.Ref.{now}
 use borrow.Author.Needs.{needs}
+use Rattle.expr.specs.Operators.{projectLimit}
 use Rattle.sheet.specs.laws.ResultLaws.{SheetTold, sheet-told, sheet-refused}
-use Rattle.sheet.specs.Sheets.{projectLimit}
 use Rattle.write.specs.Written.{sheetBuffer}
 use Rattle.api.specs.Routines.{projectSheet}
 use Rattle.api.proofs.Buffers.{too-small, settled-in}

@@ -115,6 +115,7 @@ read-head-spec =
     returns-3
     (search needs)
     (search needs)
+    (search needs)
     returns-4
     returns-5
     returns-6)

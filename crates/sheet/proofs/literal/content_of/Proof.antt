@@ -4,6 +4,7 @@ use native.Mathlib.Omega.{arith}
 use mathlib.Core.Path.{_≡_, _∙_}
 use denote.Ref.{now}
 use Rattle.sheet.specs.laws.PartLaws.{length-here, content-here}
+use Rattle.sheet.specs.Records.{headerSize, recordSize}
 use borrow.Author.Needs.{needs}
 use Rattle.sheet.proofs.literal.content_of.Statement.{statement}
 use Rattle.sheet.proofs.literal.content_of.Tie as tie
@@ -19,7 +20,7 @@ returns c =
     let a = start .args in
     let n = c .before .u16-at .result in
     let e : n ≡ _ = c .before .u16-at .ensures ∙ length-here (now (a .s)) (a .k) in
-    let size : 64 * a .k + 4 + n - (64 * a .k + 4) ≡ n = omega arith in
+    let size : recordSize * a .k + headerSize + n - (recordSize * a .k + headerSize) ≡ n = omega arith in
     rw (size, e) (content-here (now (a .s)) (a .k) (start .pre .1))
 
 pub content-of-spec : {M : Type 1} → statement M
