@@ -29,7 +29,7 @@ operatorNumber NotStartsWith = 208
 operatorNumber In = 301
 operatorNumber NotIn = 302
 
--- ---- by how many literals they take: the same operators once more (In is `within`, NotIn `outside`), so that a predicate cannot have a wrong number of literals
+-- ---- by how many literals they take: the same operators once more, so that a predicate cannot have a wrong number of literals
 
 pub data Unary : Type 0 where
   isNull notNull isNan notNan : Unary
