@@ -1,4 +1,6 @@
 """Group 18: what program `weighpick` prints. Short lines are written out, and the model has to agree; the others are the model's."""
+import os
+
 from model import (
     RECORD, CONTENT, LITERALS, LARGEST_SHEET, INT, LONG, DATE, TIME, TS, STRING, BINARY, TYPES, IDENTITY, TRUNCATE,
     YEAR, DAY, VOID, UNKNOWN, IS_NULL, NOT_NULL, LT, GT, GE, EQ, NOT_EQ, STARTS, IN, NOT_IN, OPERATORS,
@@ -7,9 +9,11 @@ from model import (
 from .leaves import leaf, literals_for
 from .values import edge_literals, per_day
 
+SAMPLE = leaf(LT, INT, [300], TRUNCATE, 10), "0 202 290", "0 201 300"  # 01's
+
 # Leaf, and what follows the two questions.
 LINES = [
-    (leaf(LT, INT, [300], TRUNCATE, 10), "0 202 290", "0 201 300"),  # 01's sample
+    SAMPLE,
     # refusals, and no predicate
     (b"", "3", "3"),
     (leaf(IS_NULL, INT)[:-1], "3", "3"),
@@ -50,9 +54,21 @@ LINES = [
 ]
 
 
+def lines(inclusive, strict):
+    return f"inclusive {inclusive}\nstrict {strict}\n".encode()
+
+
+def write_sample(folder):
+    """01's sample, as what the gate runs program `weighpick` with."""
+    sheet, inclusive, strict = SAMPLE
+    for name, content in (("stdin", sheet), ("stdout", lines(inclusive, strict))):
+        with open(os.path.join(folder, name), "wb") as out:
+            out.write(content)
+
+
 def program(cases):
     for sheet, inclusive, strict in LINES:
-        cases.program(18, sheet, told=f"inclusive {inclusive}\nstrict {strict}\n".encode())
+        cases.program(18, sheet, told=lines(inclusive, strict))
     for operator in OPERATORS:
         for column in TYPES:
             cases.program(18, leaf(operator, column, literals_for(operator, edge_literals(column))))
