@@ -51,7 +51,8 @@ def sets(cases):
     needing_t(LONG, [-(2**40) * i for i in full], IDENTITY)
     needing_t(LONG, [5] * LITERALS, IDENTITY)
     needing_t(STRING, [bytes([97 + i % 26]) * (CONTENT - i % 3) for i in full], IDENTITY)
-    needing_t(BINARY, [bytes([255 - i]) * (i % (CONTENT + 1)) for i in full], IDENTITY)
+    step = CONTENT // LITERALS + 1  # from length to length, so that the longest is among them
+    needing_t(BINARY, [bytes([255 - i]) * (step * i % (CONTENT + 1)) for i in full], IDENTITY)
     # texts that coincide after truncation
     for width in (0, 1, 2, 3):
         needing_t(STRING, [b"abc", b"abd", b"ab", b"a", "éa".encode(), "éb".encode(), "é".encode()], TRUNCATE, width)
