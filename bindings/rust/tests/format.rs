@@ -1,6 +1,8 @@
-//! The example of `docs/FORMAT.md`, with the bytes that stand there.
+//! The sizes of `docs/FORMAT.md`, and its example, with the bytes that stand there.
 
-use weighpick::sheet::{holds, project_into, RECORD, SHEET_BUFFER};
+use weighpick::sheet::{
+    holds, project_into, ANSWER_LITERALS, CONTENT, LITERALS, RECORD, SHEET_BUFFER, VALUE_BUFFER,
+};
 use weighpick::{Leaf, Predicate};
 
 const PAGE: &str = include_str!("../../../docs/FORMAT.md");
@@ -24,6 +26,28 @@ fn records() -> Vec<[u8; RECORD]> {
             record
         })
         .collect()
+}
+
+/// The page has sizes in numerals, for readers; this holds them to the constants.
+#[test]
+fn the_sizes() {
+    let (thousands, rest) = (SHEET_BUFFER / 1000, SHEET_BUFFER % 1000);
+    let leaf = format!("| 1 to {} | up to {LITERALS} |", 1 + LITERALS);
+    let answer = format!("| 1 to {} | up to {ANSWER_LITERALS} |", 1 + ANSWER_LITERALS);
+    let sizes = [
+        format!("fewer than {thousands},{rest:03} bytes, or fewer than {VALUE_BUFFER} for a value"),
+        format!("records of {RECORD} bytes"),
+        format!("| {} to {} | content", RECORD - CONTENT, RECORD - 1),
+        format!("| to be projected {leaf}"),
+        format!("| for the holds-test {answer}"),
+        format!("| as an answer {answer}"),
+        format!("| String | 0 to {CONTENT} |"),
+        format!("| Binary | 0 to {CONTENT} |"),
+        format!("with the count {} and writes", 2 * RECORD),
+    ];
+    for size in sizes {
+        assert!(PAGE.contains(&size), "{size}");
+    }
 }
 
 #[test]
