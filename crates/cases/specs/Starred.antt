@@ -28,7 +28,7 @@ use Rattle.projection.specs.Steps.{Projected, some}
 use Rattle.projection.specs.declared.question.Question.{Question}
 use Rattle.projection.specs.declared.question.Question.the-variants.{Inclusive, Strict}
 use Rattle.sheet.specs.Records.{content, value}
-use Rattle.sheet.specs.Sheets.{head, sheet}
+use Rattle.sheet.specs.Sheets.{head, sheet, fields}
 use Rattle.write.specs.Written.{answerBytes, answerSheet}
 use Rattle.answers.specs.Answers.{projectedLeaf, transformedRow, asResult}
 use Rattle.api.specs.Requests.{sheetOf, valueOf}
@@ -99,7 +99,7 @@ starred =
     ∷ []
 
 pub starred-cases : map (λ (c : Case). c .asked) starred ≡ map (λ (c : Case). c .expected) starred
-unfolding projectSheet transformValue sheet head transformOf value content projectedLeaf transformedRow resultType
+unfolding projectSheet transformValue sheet fields head transformOf value content projectedLeaf transformedRow resultType
     numberPartition bytesPartition partition projectNumbers projectBytes transformNumber transformBytes inType
     truncated floorMod floorDiv dayOf hourOf inCalendar yearOf monthOf civilYear civilMonth shift countOff before
     leap yearLength monthLength cycleYear cycleDay yearAt monthIn monthAt firstCodePoints isCodePoint codePoints utf8

@@ -26,7 +26,7 @@ use Rattle.expr.specs.Predicates.{test, binary, set}
 use Rattle.projection.specs.Projection.{projectNumbers}
 use Rattle.projection.specs.declared.question.Question.the-variants.{Inclusive, Strict}
 use Rattle.sheet.specs.Records.{content, value}
-use Rattle.sheet.specs.Sheets.{head, sheet}
+use Rattle.sheet.specs.Sheets.{head, sheet, fields}
 use Rattle.write.specs.Written.{answerSheet}
 use Rattle.api.specs.HoldsTest.{holdsTest}
 use Rattle.meets.specs.Tested.{testedSheet}
@@ -63,11 +63,11 @@ unfolding transformValue head transformOf value content transformedRow resultTyp
 row-of-nought = refl
 
 returned : Returns Inclusive below300 atMost290 × Returns Strict below300 less300
-unfolding projectSheet sheet head transformOf content projectedLeaf resultType projectNumbers transformNumber inType truncated floorMod answerSheet
+unfolding projectSheet sheet fields head transformOf content projectedLeaf resultType projectNumbers transformNumber inType truncated floorMod answerSheet
 returned = (refl, refl)
 
 accepted : Accepts below300 five × Accepts less300 nought
-unfolding holdsTest sheet head transformOf value content testedSheet compareNumbers answerSheet
+unfolding holdsTest sheet fields head transformOf value content testedSheet compareNumbers answerSheet
 accepted = (refl, refl)
 
 numeric : Numeric below300
@@ -101,12 +101,12 @@ unfolding transformValue head transformOf value content transformedRow resultTyp
 rows-of-years = (refl, refl)
 
 years-returned : Returns Inclusive lastOf1969 bothYears
-unfolding projectSheet sheet head transformOf content projectedLeaf resultType projectNumbers
+unfolding projectSheet sheet fields head transformOf content projectedLeaf resultType projectNumbers
     transformNumber inType dayOf floorDiv inCalendar yearOf civilYear shift yearAt cycleYear countOff yearLength leap compareNumbers answerSheet
 years-returned = refl
 
 years-accepted : Accepts lastOf1969 minusOne × Accepts bothYears nought
-unfolding holdsTest sheet head transformOf value content testedSheet compareNumbers answerSheet
+unfolding holdsTest sheet fields head transformOf value content testedSheet compareNumbers answerSheet
 years-accepted = (refl, refl)
 
 lifts : Lifts lastOf1969

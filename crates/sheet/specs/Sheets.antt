@@ -65,13 +65,21 @@ head type transform width = do
   f ← transformOf transform width
   ok (record { column = t; transform = f })
 
+-- 01: "4 column type; 5 transform; 8–11 width; the rest zero": what a head says beside its next and its operator
+unfoldable pub fields : List ℕ → Res Head
+fields r = do
+  h ← head (word 4 1 r) (word 5 1 r) (word 8 4 r)
+  need (zeroAt 6 2 r) Malformed
+  need (zeroAt headSize (recordSize - headSize) r) Malformed
+  ok h
+
 -- ---- a sheet
 
 pub record Sheet : Type 0 where
   pub head : Head
   pub leaf : Predicate (List ℕ)
 
--- 01: "A sheet is 1 to 65 records"; "0–1 next; 2–3 operator; 4 column type; 5 transform; 8–11 width; the rest zero". `most` is the most literals, one fewer
+-- 01: "A sheet is 1 to 65 records"; "0–1 next; 2–3 operator". `most` is the most literals, one fewer
 -- than the records; since the numbers on a chain rise, no chain has more
 unfoldable pub sheet : ℕ → List ℕ → Res Sheet
 sheet most s = do
@@ -79,9 +87,7 @@ sheet most s = do
   need (eqb (length s % recordSize) 0) Malformed
   need (leb (length s) (recordSize * suc most)) Malformed
   operator ← find operators (word 2 2 s)
-  h ← head (word 4 1 s) (word 5 1 s) (word 8 4 s)
-  need (zeroAt 6 2 s) Malformed
-  need (zeroAt headSize (recordSize - headSize) s) Malformed
+  h ← fields s
   ns ← chain (recordCount s) s 0
   literals ← each (λ n. content (layout (h .column)) (recordAt s n)) ns
   leaf ← predicate operator literals

@@ -15,6 +15,8 @@ use Rattle.expr.specs.Operators.{operators, holdsLimit}
 use Rattle.expr.specs.Predicates.{operatorIn, literalsIn}
 use Rattle.sheet.specs.Records.{headerSize, recordSize, recordCount, recordAt, nextIn, lengthIn, content}
 use Rattle.sheet.specs.Sheets as sheets
+use Rattle.sheet.specs.declared.head.FieldsResult.{FieldsResult}
+use Rattle.sheet.specs.declared.head.FieldsResult.the-variants as fields-result
 use Rattle.sheet.specs.declared.head.Head.{Head}
 use Rattle.sheet.specs.declared.head.HeadResult.{HeadResult}
 use Rattle.sheet.specs.declared.head.HeadResult.the-variants as head-result
@@ -127,10 +129,12 @@ pub record Stored (filled : ℕ) (found : Res (List ℕ)) (before after : List �
 unfoldable pub headIn : List ℕ → Res Head
 headIn s = do
   operator ← find operators (word 2 2 s)
-  h ← sheets.head (word 4 1 s) (word 5 1 s) (word 8 4 s)
-  need (zeroAt 6 2 s) Malformed
-  need (zeroAt sheets.headSize (recordSize - sheets.headSize) s) Malformed
+  h ← sheets.fields s
   ok (record { operator = operator; column = h .column; transform = h .transform })
+
+abbrev pub fieldsResult : Res sheets.Head → FieldsResult
+fieldsResult (ok h) = fields-result.Ok (record { column = h .column; transform = h .transform })
+fieldsResult (err e) = fields-result.Err e
 
 abbrev pub headResult : Res Head → HeadResult
 headResult (ok h) = head-result.Ok h

@@ -16,7 +16,7 @@ use Rattle.values.specs.declared.error.ErrorKind.the-variants.{Malformed}
 use Rattle.expr.specs.Operators.{Operator, none, one, many, byArity, operators}
 use Rattle.expr.specs.Predicates.{withLiterals, predicate}
 use Rattle.sheet.specs.Records.{headerSize, recordSize, recordCount, recordAt, nextIn, lengthIn, content, missingMark, missingValue, presentValue, value}
-use Rattle.sheet.specs.Sheets.{chain, headSize, head, sheet}
+use Rattle.sheet.specs.Sheets.{chain, headSize, head, fields, sheet}
 
 -- ---- any step: its refusals are all among those that p holds of
 pub record Only {A : Type 0} (p : ErrorKind → Type 0) (r : Res A) : Type 0 where
@@ -79,6 +79,12 @@ head-only type transform width =
     only-bind (find types type) _ (find-only types type) (λ t.
     only-bind (transformOf transform width) _ (transform-only transform width) (λ f. only-ok))
 
+pub fields-only : (r : List ℕ) → OnlyMalformed (fields r)
+unfolding fields
+fields-only r =
+    only-bind (head (word 4 1 r) (word 5 1 r) (word 8 4 r)) _ (head-only (word 4 1 r) (word 5 1 r) (word 8 4 r)) (λ h.
+    must (zeroAt 6 2 r) _ (must (zeroAt headSize (recordSize - headSize) r) _ only-ok))
+
 pub chain-only : (steps : ℕ) (s : List ℕ) (k : ℕ) → OnlyMalformed (chain steps s k)
 chain-only zero s k = only-ok
 chain-only (suc steps) s k =
@@ -99,9 +105,8 @@ unfolding sheet
 sheet-only most s =
     must (ltb 0 (length s)) _ (must (eqb (length s % recordSize) 0) _ (must (leb (length s) (recordSize * suc most)) _
     (only-bind (find operators (word 2 2 s)) _ (find-only operators (word 2 2 s)) (λ o.
-    only-bind (head (word 4 1 s) (word 5 1 s) (word 8 4 s)) _ (head-only (word 4 1 s) (word 5 1 s) (word 8 4 s)) (λ h.
-    must (zeroAt 6 2 s) _ (must (zeroAt headSize (recordSize - headSize) s) _
-    (only-bind (chain (recordCount s) s 0) _ (chain-only (recordCount s) s 0) (λ ns.
+    only-bind (fields s) _ (fields-only s) (λ h.
+    only-bind (chain (recordCount s) s 0) _ (chain-only (recordCount s) s 0) (λ ns.
     let read : ℕ → Res (List ℕ) = λ n. content (layout (h .column)) (recordAt s n) in
     only-bind (each read ns) _ (only-each read (λ n. content-only (layout (h .column)) (recordAt s n)) ns) (λ ls.
-    only-bind (predicate o ls) _ (leaf-only (byArity o) ls) (λ leaf. only-ok))))))))))
+    only-bind (predicate o ls) _ (leaf-only (byArity o) ls) (λ leaf. only-ok))))))))

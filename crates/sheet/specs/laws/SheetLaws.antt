@@ -20,7 +20,7 @@ use Rattle.expr.specs.Predicates.{Predicate, predicate, literalsIn}
 use Rattle.expr.specs.declared.operator.PredicateOperator.{PredicateOperator}
 use Rattle.sheet.specs.Records.{recordSize, recordCount, recordAt, nextIn, content}
 use Rattle.sheet.specs.laws.RecordLaws.{content-fits, content-bytes, field-bytes}
-use Rattle.sheet.specs.Sheets.{chain, headSize, head, Head, Sheet, sheet}
+use Rattle.sheet.specs.Sheets.{chain, headSize, head, fields, Head, Sheet, sheet}
 use Rattle.expr.specs.laws.PredicateLaws.{predicate-parts}
 
 -- every literal has a length that the type allows
@@ -76,6 +76,15 @@ module _ (s : List ℕ) where
   chain-rises zero k e = subst (Rising s k) (ok-inj e) none
   chain-rises (suc steps) k e = let next = nextIn (recordAt s k) in step-rises (eqb next 0) k next (chain steps s next) (λ ms. chain-rises steps next) e
 
+-- ---- the fields of a head
+pub fields-head : (r : List ℕ) (h : Head) → fields r ≡ ok h → head (word 4 1 r) (word 5 1 r) (word 8 4 r) ≡ ok h
+unfolding fields
+fields-head r h e =
+    let a = gone (head (word 4 1 r) (word 5 1 r) (word 8 4 r)) _ e in
+    let b = passed (zeroAt 6 2 r) Malformed _ (a .2) in
+    let c = passed (zeroAt headSize (recordSize - headSize) r) Malformed _ (b .1) in
+    a .1 ∙ c .1
+
 -- ---- a sheet that is read
 all-any : {A : Type 0} (xs : List A) → AllOf (λ (x : A). Unit {0}) xs
 all-any [] = tt
@@ -122,14 +131,12 @@ module _ (most : ℕ) (s : List ℕ) where
       let even = passed (eqb (length s % recordSize) 0) Malformed _ (some .1) in
       let short = passed (leb (length s) (recordSize * suc most)) Malformed _ (even .1) in
       let o = gone (find operators (word 2 2 s)) _ (short .1) in
-      let h = gone (head (word 4 1 s) (word 5 1 s) (word 8 4 s)) _ (o .2) in
-      let a = passed (zeroAt 6 2 s) Malformed _ (h .2) in
-      let b = passed (zeroAt headSize (recordSize - headSize) s) Malformed _ (a .1) in
-      let r = gone (chain (recordCount s) s 0) _ (b .1) in
+      let h = gone (fields s) _ (o .2) in
+      let r = gone (chain (recordCount s) s 0) _ (h .2) in
       let c = gone (each (λ n. content (layout (h .0 .column)) (recordAt s n)) (r .0)) _ (r .2) in
       let l = gone (predicate (o .0) (c .0)) _ (c .2) in
       subst (Read most s) {x = record { head = h .0; leaf = l .0 }} (ok-inj {x = record { head = h .0; leaf = l .0 }} (l .2))
-      (put-together (o .0) (h .0) (r .0) (c .0) (l .0) (ltb-true _ _ (some .0)) (eqb-true _ _ (even .0)) (leb-true _ _ (short .0)) (h .1) (r .1) (c .1) (l .1))
+      (put-together (o .0) (h .0) (r .0) (c .0) (l .0) (ltb-true _ _ (some .0)) (eqb-true _ _ (even .0)) (leb-true _ _ (short .0)) (fields-head s (h .0) (h .1)) (r .1) (c .1) (l .1))
 
   -- a sheet that is read is read the same where more literals are allowed
   pub wider : (more : ℕ) (x : Sheet) → sheet most s ≡ ok x → most ≤ more → sheet more s ≡ ok x

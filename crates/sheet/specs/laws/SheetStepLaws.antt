@@ -11,7 +11,7 @@ use Rattle.values.specs.Numbered.{find}
 use Rattle.values.specs.Outcomes.{Res, ok, err, need, each, _>>=_, _>>_}
 use Rattle.values.specs.laws.TestLaws.{clash}
 use Rattle.values.specs.Types.{layout}
-use Rattle.values.specs.Words.{word, zeroAt}
+use Rattle.values.specs.Words.{word}
 use Rattle.values.specs.declared.error.ErrorKind.the-variants.{Malformed}
 use Rattle.expr.specs.Operators.{Operator, none, one, many, byArity, operators, operatorOf}
 use Rattle.expr.specs.code.OperatorAnswers.{takes}
@@ -20,7 +20,7 @@ use Rattle.expr.specs.Predicates.{Predicate, unary, test, binary, set, operator
 use Rattle.expr.specs.declared.operator.PredicateOperator.{PredicateOperator}
 use Rattle.sheet.specs.code.ReadAnswers.{contentAt, headIn, recordsFrom}
 use Rattle.sheet.specs.Records.{recordSize, recordCount, recordAt, content}
-use Rattle.sheet.specs.Sheets.{chain, headSize, head, Sheet, sheet}
+use Rattle.sheet.specs.Sheets.{chain, fields, Sheet, sheet}
 use Rattle.sheet.specs.laws.WalkLaws.{literals-follow}
 use Rattle.sheet.specs.declared.head.Head.{Head}
 
@@ -36,25 +36,19 @@ withChain s h = do
   leafOf s h ns
 
 -- a head's lines, and what follows them
-through : {A B C D : Type 0} (a : Res A) (b : Res B) (y z : Bool) (f : A → B → C) (g : C → Res D) (k : A → B → Res D) → ((o : A) (h : B) → k o h ≡ g (f o h))
-    → (a >>= λ o. b >>= λ h. need y Malformed >> (need z Malformed >> k o h))
-    ≡ ((a >>= λ o. b >>= λ h. need y Malformed >> (need z Malformed >> ok (f o h))) >>= g)
-through (ok o) (ok h) true true f g k e = e o h
-through (ok o) (ok h) true false f g k e = refl
-through (ok o) (ok h) false z f g k e = refl
-through (ok o) (err d) y z f g k e = refl
-through (err d) b y z f g k e = refl
+through : {A B C D : Type 0} (a : Res A) (b : Res B) (f : A → B → C) (g : C → Res D) (k : A → B → Res D) → ((o : A) (h : B) → k o h ≡ g (f o h))
+    → (a >>= λ o. b >>= λ h. k o h) ≡ ((a >>= λ o. b >>= λ h. ok (f o h)) >>= g)
+through (ok o) (ok h) f g k e = e o h
+through (ok o) (err d) f g k e = refl
+through (err d) b f g k e = refl
 
 module _ (s : List ℕ) where
-  after-size : (find operators (word 2 2 s) >>= λ o. head (word 4 1 s) (word 5 1 s) (word 8 4 s) >>= λ h.
-      need (zeroAt 6 2 s) Malformed >> (need (zeroAt headSize (recordSize - headSize) s) Malformed >>
-      (chain (recordCount s) s 0 >>= λ ns. each (λ n. content (layout (h .column)) (recordAt s n)) ns >>= λ ls.
-      predicate o ls >>= λ leaf. ok (record { head = h; leaf = leaf }))))
+  after-size : (find operators (word 2 2 s) >>= λ o. fields s >>= λ h.
+      chain (recordCount s) s 0 >>= λ ns. each (λ n. content (layout (h .column)) (recordAt s n)) ns >>= λ ls.
+      predicate o ls >>= λ leaf. ok (record { head = h; leaf = leaf }))
       ≡ (headIn s >>= withChain s)
   unfolding headIn
-  after-size =
-      through (find operators (word 2 2 s)) (head (word 4 1 s) (word 5 1 s) (word 8 4 s)) (zeroAt 6 2 s) (zeroAt headSize (recordSize - headSize) s)
-      _ (withChain s) _ (λ o h. literals-follow (layout (h .column)) s 0 _)
+  after-size = through (find operators (word 2 2 s)) (fields s) _ (withChain s) _ (λ o h. literals-follow (layout (h .column)) s 0 _)
 
   pub sheet-steps : (most : ℕ) → sheet most s
       ≡ (need (ltb 0 (length s)) Malformed >> (need (eqb (length s % recordSize) 0) Malformed >>

@@ -24,7 +24,7 @@ use Rattle.expr.specs.Predicates.{Predicate, operatorIn, literalsIn}
 use Rattle.sheet.specs.Records.{recordSize, recordCount, recordAt, nextIn, content}
 use Rattle.sheet.specs.laws.RecordLaws.{fits-room}
 use Rattle.write.specs.laws.RoundTripLaws.{length-literal, content-back}
-use Rattle.sheet.specs.Sheets.{chain, head, sheet}
+use Rattle.sheet.specs.Sheets.{chain, head, sheet, fields}
 use Rattle.sheet.specs.laws.SheetLaws.{Fits}
 use Rattle.write.specs.Written.{literalRecord, nextTo, literalRecords, answerSheet}
 use Rattle.expr.specs.laws.PredicateLaws.{operator-found, predicate-back}
@@ -112,7 +112,7 @@ answer-literals ty p h few =
 
 pub answer-back : (most : ℕ) (ty : PrimitiveType) (p : Predicate (List ℕ)) → most ≤ 60000 → Fits ty (literalsIn p) → length (literalsIn p) ≤ most
     → sheet most (answerSheet ty p) ≡ ok (record { head = record { column = ty; transform = Identity }; leaf = p })
-unfolding sheet answerSheet
+unfolding sheet fields answerSheet
 answer-back most ty p few h k =
     let s = answerSheet ty p in
     let size = length-answer ty p h in
@@ -121,9 +121,7 @@ answer-back most ty p few h k =
     ∙ passing Malformed _ (eq-eqb (length s % recordSize) 0 (omega (arith, size)))
     ∙ passing Malformed _ (le-leb (length s) (recordSize * suc most) (omega (arith, size)))
     ∙ going _ (found-back 2 operators (operatorNumber (operatorIn p)) refl (operator-found (operatorIn p)))
-    ∙ going _ (answer-head ty)
-    ∙ passing Malformed _ refl
-    ∙ passing Malformed _ refl
+    ∙ going _ (going _ (answer-head ty) ∙ passing Malformed _ refl ∙ passing Malformed _ refl)
     ∙ going _ (back .on)
     ∙ going _ (back .contents)
     ∙ going _ (predicate-back p)
