@@ -84,3 +84,14 @@ operatorOf (one startsWith) = StartsWith
 operatorOf (one notStartsWith) = NotStartsWith
 operatorOf (many isIn) = In
 operatorOf (many notIn) = NotIn
+
+-- the operator that holds of a present value exactly where the other does not
+abbrev pub oppositeBinary : Binary → Binary
+oppositeBinary lessThan = greaterThanOrEq
+oppositeBinary lessThanOrEq = greaterThan
+oppositeBinary greaterThan = lessThanOrEq
+oppositeBinary greaterThanOrEq = lessThan
+oppositeBinary eq = notEq
+oppositeBinary notEq = eq
+oppositeBinary startsWith = notStartsWith
+oppositeBinary notStartsWith = startsWith

@@ -12,22 +12,12 @@ use Rattle.expr.specs.code.OperatorAnswers.{negated}
 use Rattle.expr.specs.Predicates.{Test, binary, set, test, operatorIn}
 
 -- ---- opposites
-abbrev pub oppositeBinary : operators.Binary → operators.Binary
-oppositeBinary operators.lessThan = operators.greaterThanOrEq
-oppositeBinary operators.lessThanOrEq = operators.greaterThan
-oppositeBinary operators.greaterThan = operators.lessThanOrEq
-oppositeBinary operators.greaterThanOrEq = operators.lessThan
-oppositeBinary operators.eq = operators.notEq
-oppositeBinary operators.notEq = operators.eq
-oppositeBinary operators.startsWith = operators.notStartsWith
-oppositeBinary operators.notStartsWith = operators.startsWith
-
 abbrev pub oppositeSet : operators.SetOperator → operators.SetOperator
 oppositeSet operators.isIn = operators.notIn
 oppositeSet operators.notIn = operators.isIn
 
 abbrev pub opposite : {A : Type 0} → Test A → Test A
-opposite (binary o l) = binary (oppositeBinary o) l
+opposite (binary o l) = binary (operators.oppositeBinary o) l
 opposite (set o ls) = set (oppositeSet o) ls
 
 pub opposite-twice : {A : Type 0} (t : Test A) → opposite (opposite t) ≡ t

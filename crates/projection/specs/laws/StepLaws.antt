@@ -9,8 +9,8 @@ use Rattle.values.specs.Ascending.{ascending}
 use Rattle.values.specs.Outcomes.{Res, ok, err, each, _>>=_}
 use Rattle.values.specs.laws.OutcomeLaws.{ok-inj, each-cons}
 use Rattle.values.specs.declared.order.Ordering.{Ordering}
-use Rattle.expr.specs.laws.HoldsLaws.{opposite, oppositeBinary, oppositeSet}
-use Rattle.expr.specs.Operators.{Binary, SetOperator}
+use Rattle.expr.specs.laws.HoldsLaws.{opposite, oppositeSet}
+use Rattle.expr.specs.Operators.{Binary, SetOperator, oppositeBinary}
 use Rattle.expr.specs.Predicates.{Test, binary, set}
 use Rattle.projection.specs.ByteSteps.{byLength}
 use Rattle.projection.specs.Steps.{Projected, some, none, mapped, withLiteral, withEach}
