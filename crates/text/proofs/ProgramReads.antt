@@ -13,7 +13,8 @@ use Rattle.write.specs.Written.{sheetBuffer}
 use Rattle.answers.specs.Answers.{answerOf, leftOf, answerNumber, answerCount}
 use Rattle.answers.specs.declared.answer.Answer.{Answer}
 use Rattle.api.specs.Routines.{projectSheet, answered, leftIn}
-use Rattle.text.specs.Text.{ascii, answerLine}
+use Rattle.values.specs.Characters.{ascii}
+use Rattle.text.specs.Text.{answerLine}
 use Rattle.text.specs.Program.{answerIn, projectionLine, printed, outputSize}
 use Rattle.text.specs.laws.ProgramLaws.{printed-fits}
 use Rattle.text.proofs.Writes.{Wrote, then, kept}

@@ -16,12 +16,13 @@ use Rattle.projection.specs.Projection.{projectNumbers}
 use Rattle.projection.specs.Steps.{Projected, some, none}
 use Rattle.projection.specs.declared.question.Question.the-variants.{Inclusive, Strict}
 use Rattle.sheet.specs.Records.{content}
-use Rattle.sheet.specs.Sheets.{sheet, head}
+use Rattle.sheet.specs.Sheets.{sheet, head, fields}
 use Rattle.write.specs.Written.{answerSheet, sheetBuffer}
 use Rattle.answers.specs.Answers.{projectedLeaf, answerOf, answerNumber}
 use Rattle.api.specs.Requests.{sheetOf}
 use Rattle.api.specs.Routines.{projectSheet}
-use Rattle.text.specs.Text.{ascii, digits, answerLine}
+use Rattle.values.specs.Characters.{ascii}
+use Rattle.text.specs.Text.{digits, answerLine}
 
 -- the answer sheet of a projection; after 1 and after a refusal there is none
 abbrev pub answerIn : Res (Projected (List ℕ)) → List ℕ
@@ -44,6 +45,6 @@ outputSize = 4 * sheetBuffer
 
 -- "For Int, Truncate 10, < 300"
 sample : printed (sheetOf 201 1 1 10 (signedBytes 4 (pos 300) ∷ [])) ≡ ascii "inclusive 0 202 290\nstrict 0 201 300\n"
-unfolding printed answerLine digits projectSheet sheet head transformOf content projectedLeaf resultType projectNumbers transformNumber inType
+unfolding printed answerLine digits projectSheet sheet fields head transformOf content projectedLeaf resultType projectNumbers transformNumber inType
     truncated floorMod answerSheet
 sample = refl

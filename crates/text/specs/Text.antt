@@ -2,12 +2,12 @@
 -- decimal; strings lower-case hexadecimal, an empty one `-`." Assumes nothing.
 use Prim.Native.Nat.{ℕ, zero, suc, _+_, _-_, _/_, _%_}
 use Prim.Native.Char.{code}
-use Prim.Native.String as string
 use mathlib.Core.Bool.{cond}
 use mathlib.Core.List.{List, [], _∷_, _++_, map}
 use mathlib.Core.Path.{_≡_, refl}
 use lib.Dec.{ltb}
 use lib.IntN.{ℤ, pos, negsuc}
+use Rattle.values.specs.Characters.{ascii}
 use Rattle.values.specs.Outcomes.{Res, ok, err}
 use Rattle.values.specs.Types.{Layout, number, bytes, layout}
 use Rattle.values.specs.Transforms.{transformOf}
@@ -15,13 +15,8 @@ use Rattle.values.specs.Words.{leNumber, signed, signedBytes}
 use Rattle.expr.specs.Operators.{operatorNumber, holdsLimit}
 use Rattle.expr.specs.Predicates.{operatorIn, literalsIn}
 use Rattle.sheet.specs.Records.{content}
-use Rattle.sheet.specs.Sheets.{Sheet, sheet, head}
+use Rattle.sheet.specs.Sheets.{Sheet, sheet, head, fields}
 use Rattle.write.specs.Written.{headRecord, literalRecord}
-
--- the bytes of a text
-abbrev pub ascii : string.String → List ℕ
-ascii string.[] = []
-ascii (string._∷_ c s) = code c ∷ ascii s
 
 abbrev pub space : ℕ
 space = code " "
@@ -114,5 +109,5 @@ abbrev at-most-290 : List ℕ
 at-most-290 = headRecord 1 202 1 ++ literalRecord 0 (signedBytes 4 (pos 290))
 
 examples : (answerLine (ascii "inclusive") 0 at-most-290 ≡ ascii "inclusive 0 202 290\n") × (answerLine (ascii "strict") 8 [] ≡ ascii "strict 8\n")
-unfolding answerLine digits sheet head transformOf content
+unfolding answerLine digits sheet fields head transformOf content
 examples = (refl, refl)

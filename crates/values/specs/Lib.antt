@@ -4,6 +4,7 @@ pub mod Numbered
 pub mod Types
 pub mod Transforms
 pub mod Words
+pub mod Characters
 pub mod Utf8
 pub mod Order
 pub mod Ascending

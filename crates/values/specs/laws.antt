@@ -7,6 +7,7 @@ pub mod RangeLaws
 pub mod TypesLaws
 pub mod WordLaws
 pub mod FieldLaws
+pub mod CharacterLaws
 pub mod CodePointLaws
 pub mod Utf8Laws
 pub mod Utf8StepLaws

@@ -1,4 +1,4 @@
-// Why a routine refuses. DataInvalid and FeatureUnsupported are the Rust's two kinds (src/error.rs); the others are document 01's own.
+// Why a routine refuses. DataInvalid and FeatureUnsupported are the Rust's two kinds (src/error.rs); the others are document 01's own, and 02's.
 ghost use mathlib.Core.Path.{_≡_};
 ghost use Rattle.values.specs.Outcomes.{errorNumber};
 
@@ -13,10 +13,14 @@ pub enum ErrorKind {
     FeatureUnsupported,
     // The Rust panics or wraps.
     Overflow,
+    // A filter's text is outside its grammar, or names a column that is not declared.
+    OutsideGrammar,
+    // A filter has too many bytes, leaves or open brackets.
+    TooLarge,
 }
 
 impl ErrorKind {
-    // Document 01's number of the refusal.
+    // The number of the refusal in document 01's table, which 02 goes on with.
     pub fn number(self) -> u32
         ensures { λ r. ⌜ r ≡ errorNumber self ⌝ }
     {
@@ -27,6 +31,8 @@ impl ErrorKind {
             ErrorKind::DataInvalid => 6,
             ErrorKind::FeatureUnsupported => 7,
             ErrorKind::Overflow => 8,
+            ErrorKind::OutsideGrammar => 9,
+            ErrorKind::TooLarge => 10,
         }
     }
 }

@@ -1,5 +1,5 @@
 -- Laws of what the program prints: that it fits its buffer, and what a sheet that is too long prints. Assumes nothing.
-use Prim.Native.Nat.{ℕ, suc, _*_, _%_, _≤_, _<_}
+use Prim.Native.Nat.{ℕ, suc, _*_, _%_, _≤_, _<_, _^_}
 use native.Mathlib.Omega.{arith}
 use mathlib.Core.Bool.{Bool, true, false}
 use mathlib.Core.List.{List}
@@ -10,7 +10,7 @@ use lib.Seq.{length-take-le}
 use borrow.Author.Tests.{lt-ltb, lt-leb}
 use Rattle.values.specs.Outcomes.{Res, ok, err, errorNumber, need, _>>_}
 use Rattle.values.specs.declared.error.ErrorKind.{ErrorKind}
-use Rattle.values.specs.declared.error.ErrorKind.the-variants.{Malformed, NotUtf8, NoResultType, DataInvalid, FeatureUnsupported, Overflow}
+use Rattle.values.specs.declared.error.ErrorKind.the-variants.{Malformed, NotUtf8, NoResultType, DataInvalid, FeatureUnsupported, Overflow, OutsideGrammar, TooLarge}
 use Rattle.expr.specs.Operators.{projectLimit}
 use Rattle.projection.specs.Steps.{Projected, some, none}
 use Rattle.projection.specs.declared.question.Question.{Question}
@@ -19,30 +19,33 @@ use Rattle.sheet.specs.Records.{recordSize}
 use Rattle.sheet.specs.Sheets.{Sheet, sheet}
 use Rattle.answers.specs.Answers.{answerOf, answerNumber}
 use Rattle.api.specs.Routines.{projectSheet}
-use Rattle.text.specs.Text.{ascii, answerLine, digits}
+use Rattle.values.specs.Characters.{ascii}
+use Rattle.text.specs.Text.{answerLine, digits}
 use Rattle.text.specs.laws.TextLaws.{line-few}
 use Rattle.text.specs.Program.{answerIn, printed, outputSize}
 
-one-digit : (e : ErrorKind) → errorNumber e < 10
-one-digit Malformed = omega arith
-one-digit NotUtf8 = omega arith
-one-digit NoResultType = omega arith
-one-digit DataInvalid = omega arith
-one-digit FeatureUnsupported = omega arith
-one-digit Overflow = omega arith
+two-digits : (e : ErrorKind) → errorNumber e < 10 ^ 2
+two-digits Malformed = omega arith
+two-digits NotUtf8 = omega arith
+two-digits NoResultType = omega arith
+two-digits DataInvalid = omega arith
+two-digits FeatureUnsupported = omega arith
+two-digits Overflow = omega arith
+two-digits OutsideGrammar = omega arith
+two-digits TooLarge = omega arith
 
-number-digit : (r : Res (Projected (List ℕ))) → answerNumber (answerOf r) < 10
-number-digit (ok (some answer)) = omega arith
-number-digit (ok none) = omega arith
-number-digit (err e) = one-digit e
+number-digits : (r : Res (Projected (List ℕ))) → answerNumber (answerOf r) < 10 ^ 2
+number-digits (ok (some answer)) = omega arith
+number-digits (ok none) = omega arith
+number-digits (err e) = two-digits e
 
 pub printed-fits : (input : List ℕ) → length (printed input) ≤ outputSize
 unfolding printed
 printed-fits input =
     let inclusive = projectSheet Inclusive input in
     let strict = projectSheet Strict input in
-    let first = line-few (ascii "inclusive") (answerNumber (answerOf inclusive)) (answerIn inclusive) (number-digit inclusive) in
-    let second = line-few (ascii "strict") (answerNumber (answerOf strict)) (answerIn strict) (number-digit strict) in
+    let first = line-few (ascii "inclusive") (answerNumber (answerOf inclusive)) (answerIn inclusive) (number-digits inclusive) in
+    let second = line-few (ascii "strict") (answerNumber (answerOf strict)) (answerIn strict) (number-digits strict) in
     rw length-append (omega (arith, first, second))
 
 -- ---- 01: "Over 4,160 bytes is 3"

@@ -144,9 +144,9 @@ after-zero-few : (n : ℕ) (answer : List ℕ) → length (spaced (afterZero n (
 after-zero-few zero answer = predicate-few answer
 after-zero-few (suc n) answer = omega arith
 
--- a line whose number is one digit: beside the question and the predicate a space, the digit and the newline
-pub line-few : (question : List ℕ) (code : ℕ) (answer : List ℕ) → code < 10 → length (answerLine question code answer) ≤ length question + (3 + predicateSize)
+-- a line whose number has at most two digits: beside the question and the predicate a space, the digits and the newline
+pub line-few : (question : List ℕ) (code : ℕ) (answer : List ℕ) → code < 10 ^ 2 → length (answerLine question code answer) ≤ length question + (4 + predicateSize)
 unfolding answerLine
 line-few question code answer h =
-    let number = digits-few 0 code (omega arith) in
+    let number = digits-few 1 code h in
     simp length-append (omega (arith, after-zero-few code answer))

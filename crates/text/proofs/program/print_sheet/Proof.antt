@@ -9,7 +9,8 @@ use borrow.Author.Needs.{needs}
 use Rattle.projection.specs.declared.question.Question.the-variants.{Inclusive, Strict}
 use Rattle.write.specs.Written.{sheetBuffer}
 use Rattle.api.specs.Routines.{projectSheet}
-use Rattle.text.specs.Text.{ascii, answerLine}
+use Rattle.values.specs.Characters.{ascii}
+use Rattle.text.specs.Text.{answerLine}
 use Rattle.text.specs.Program.{outputSize}
 use Rattle.text.proofs.ProgramReads.{Asked, count-fits, count-taken, line-is, first, second, both-fit, both, inside}
 use Rattle.text.proofs.Writes.{Wrote, wrote, kept}
