@@ -1,0 +1,1 @@
+// The grammar of filters: definitions and laws. It has no function.
