@@ -1,0 +1,4 @@
+-- The definitions of `tokens`, in the order in which to read them.
+pub mod Tokens
+pub mod code
+pub mod laws

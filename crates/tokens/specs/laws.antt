@@ -1,0 +1,3 @@
+-- The laws about the definitions of `tokens`.
+pub mod DecimalLaws
+pub mod TokenLaws
