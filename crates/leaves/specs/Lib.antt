@@ -1,0 +1,3 @@
+-- The definitions of `leaves`, in the order in which to read them.
+pub mod Fitting
+pub mod Symbols
