@@ -23,7 +23,7 @@ ghost use Rattle.meets.specs.Tested.{heldAs};
 ghost use Rattle.meets.specs.code.HeldAnswers.{numberRowMeets, bytesRowMeets, stringRowMeets, rowMeets, valueMeets};
 
 // A test that was made, as the answer.
-fn answered(yes: bool) -> Held
+pub fn answered(yes: bool) -> Held
     ensures { λ r. ⌜ r ≡ heldAs (ok yes) ⌝ }
 {
     if yes { Held::Yes } else { Held::No }

@@ -20,7 +20,7 @@ use Rattle.values.specs.declared.transform.Transform.{Transform}
 use Rattle.values.specs.declared.transform.Transform.the-variants.{Identity}
 use Rattle.partition.specs.code.PartitionAnswers.{InType}
 use Rattle.partition.specs.ResultType.{resultType}
-use Rattle.expr.specs.Operators.{Binary as BinaryOperator, one, isIn, byArity}
+use Rattle.expr.specs.Operators.{Binary as BinaryOperator, Operator, one, isIn, byArity}
 use Rattle.expr.specs.code.OperatorAnswers.{takesOne}
 use Rattle.expr.specs.Predicates.{Test, Predicate, test, binary, set, operatorIn, literalsIn}
 use Rattle.projection.specs.code.OneLiteral.{oneTest}
@@ -28,6 +28,7 @@ use Rattle.numbers.specs.code.Boundaries.{numberLeaf, OneIn, numberProjected}
 use Rattle.projection.specs.laws.LandingLaws.{numbers-land}
 use Rattle.projection.specs.Projection.{byTransform, numberStep, projectNumbers}
 use Rattle.projection.specs.Steps.{some, mapped}
+use Rattle.projection.specs.declared.question.Question.{Question}
 use Rattle.numbers.specs.declared.steps.NumberProjection.{NumberProjection}
 use Rattle.numbers.specs.declared.steps.NumberProjection.the-variants as number-projection
 use Rattle.sheet.specs.code.ReadAnswers.{numberAt}
@@ -37,7 +38,7 @@ use Rattle.write.specs.Written.{answerBytes, answerSheet, numberBytes}
 use Rattle.write.specs.laws.WrittenLaws.{length-answer}
 use Rattle.answers.specs.code.Settled.{Settled}
 use Rattle.sheet.specs.Values.{mapLiterals}
-use Rattle.answers.specs.code.Leaves.{numbersWritten, numberSteps, numberLeafAt, oneWritten, NumbersIn, isIdentity, ReadyLeaf, NumberColumn}
+use Rattle.answers.specs.code.Leaves.{numbersWritten, numberSteps, numberLeafAt, oneWritten, NumbersIn, hasSteps, isIdentity, ReadyLeaf, NumberColumn}
 use Rattle.answers.specs.laws.OneLiteralLaws.{takes-one, one-literal}
 use Rattle.sheet.specs.laws.ReadLaws.{map-operator, map-literals}
 use Rattle.answers.specs.laws.StepsLaws.{steps-through}
@@ -86,6 +87,34 @@ module _ (column : PrimitiveType) (records : NumberColumn column) where
     numbers-inside [] = tt
     numbers-inside (k ∷ ks) = (number-inside k, numbers-inside ks)
 
+-- ---- what a number of the column comes to, under every other transform than Identity that has steps
+module _ (question : Question) (column to : PrimitiveType) (transform : Transform) (a : Operator) (single : takesOne a ≡ true) (literal : ℤ)
+    (result : resultType transform column ≡ ok to) (known : hasSteps transform ≡ true) (other : isIdentity transform ≡ false) where
+  abbrev leaf : Predicate ℤ
+  leaf = test (binary (takes-one a single .0) literal)
+
+  module _ (p : NumberProjection) (projected : numberProjected p ≡ numberLeaf question column transform a literal) where
+    step-is : numberStep column transform question (binary (takes-one a single .0) literal) ≡ numberProjected p
+    step-is = sym (projected ∙ ap (λ b. numberLeaf question column transform b literal) (takes-one a single .1))
+
+    pub leaf-stepped : byTransform compareNumbers (numberStep column transform question) transform leaf ≡ (numberProjected p >>= λ q. ok (mapped test q))
+    leaf-stepped = steps-through compareNumbers (numberStep column transform question) transform leaf known other ∙ rw step-is
+
+    landed : InType column literal → (q : Test ℤ) → numberProjected p ≡ ok (some q) → AllOf (InType to) (literalsIn (test q))
+    unfolding projectNumbers
+    landed inside q e = numbers-land question column to transform leaf (test q) result (inside, tt) (leaf-stepped ∙ rw e) .all
+
+  pub leaf-inside : InType column literal → (p : NumberProjection) → numberProjected p ≡ numberLeaf question column transform a literal → OneIn p
+      → NumbersIn to p
+  leaf-inside inside number-projection.None e h = tt
+  leaf-inside inside (number-projection.One o t) e h =
+      let k = takes-one (byArity o) h in
+      (landed (number-projection.One o t) e inside (binary (k .0) t) (ap (λ b. ok (oneTest b t)) (k .1)) .0, h)
+  leaf-inside inside (number-projection.Two t) e h =
+      let all = landed (number-projection.Two t) e inside (set isIn (t ∷ sucℤ t ∷ [])) refl in
+      (all .0, all .1 .0)
+  leaf-inside inside (number-projection.Err k) e h = tt
+
 -- ---- a leaf with one literal
 pub identity-type : (transform : Transform) (column to : PrimitiveType) → transform ≡ Identity → resultType transform column ≡ ok to → column ≡ to
 unfolding resultType
@@ -116,41 +145,18 @@ module _ {x : Leaf} {s records out : List ℕ} (column : NumberColumn (x .column
       (rw (← identity-type (x .transform) (x .column) (x .to) t (ready .result)) (number-inside (x .column) column s (getD records 0 0)), single)
 
   -- else what it comes to
-  module _ (other : isIdentity (x .transform) ≡ false) (p : NumberProjection)
-      (projected : numberProjected p ≡ numberLeaf (x .question) (x .column) (x .transform) (byArity (x .operator)) literal) where
-    step-is : numberStep (x .column) (x .transform) (x .question) (binary o literal) ≡ numberProjected p
-    step-is = sym (projected ∙ rw is-one)
-
-    stepped : byTransform compareNumbers (numberStep (x .column) (x .transform) (x .question)) (x .transform) (test (binary o literal))
-        ≡ (numberProjected p >>= λ q. ok (mapped test q))
-    stepped = steps-through compareNumbers (numberStep (x .column) (x .transform) (x .question)) (x .transform) (test (binary o literal)) (ready .known) other ∙ rw step-is
-
-    pub one-projected : numberSteps x (numberLeafAt x s records) ≡ oneWritten (x .to) (numberProjected p)
-    unfolding numberSteps
-    one-projected = rw (one-leaf, stepped)
-
-    landed : (q : Test ℤ) → numberProjected p ≡ ok (some q) → AllOf (InType (x .to)) (literalsIn (test q))
-    unfolding projectNumbers
-    landed q e =
-        numbers-land
-        (x .question)
-        (x .column)
-        (x .to)
-        (x .transform)
-        (test (binary o literal))
-        (test q)
-        (ready .result)
-        (number-inside (x .column) column s (getD records 0 0), tt)
-        (stepped ∙ rw e)
-        .all
+  pub one-projected : isIdentity (x .transform) ≡ false → (p : NumberProjection)
+      → numberProjected p ≡ numberLeaf (x .question) (x .column) (x .transform) (byArity (x .operator)) literal
+      → numberSteps x (numberLeafAt x s records) ≡ oneWritten (x .to) (numberProjected p)
+  unfolding numberSteps
+  one-projected other p e =
+      rw (
+        one-leaf,
+        leaf-stepped (x .question) (x .column) (x .to) (x .transform) (byArity (x .operator)) single literal (ready .result) (ready .known) other p e,
+      )
 
   pub projected-inside : isIdentity (x .transform) ≡ false → (p : NumberProjection)
       → numberProjected p ≡ numberLeaf (x .question) (x .column) (x .transform) (byArity (x .operator)) literal → OneIn p → NumbersIn (x .to) p
-  projected-inside other number-projection.None e h = tt
-  projected-inside other (number-projection.One p t) e h =
-      let k = takes-one (byArity p) h in
-      (landed other (number-projection.One p t) e (binary (k .0) t) (ap (λ a. ok (oneTest a t)) (k .1)) .0, h)
-  projected-inside other (number-projection.Two t) e h =
-      let all = landed other (number-projection.Two t) e (set isIn (t ∷ sucℤ t ∷ [])) refl in
-      (all .0, all .1 .0)
-  projected-inside other (number-projection.Err k) e h = tt
+  projected-inside other p e h =
+      leaf-inside (x .question) (x .column) (x .to) (x .transform) (byArity (x .operator)) single literal (ready .result) (ready .known) other
+      (number-inside (x .column) column s (getD records 0 0)) p e h

@@ -1,0 +1,3 @@
+-- Lemmas that several proofs share.
+pub mod PartArms
+pub mod NumberArms

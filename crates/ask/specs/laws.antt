@@ -1,0 +1,3 @@
+-- The laws about the definitions of `ask`.
+pub mod PartLaws
+pub mod AskLaws
