@@ -1,0 +1,85 @@
+-- What is to be shown of filters, beside demand 3, over bytes: column lists c, texts t, value records v side by side, and partition values p. Assumes nothing.
+use Prim.Native.Nat.{ℕ, _≤_}
+use mathlib.Core.Bool.{Bool, true}
+use mathlib.Core.List.{List, [], _∷_, _++_, map, List·Memᴰ as Isin}
+use mathlib.Core.Path.{_≡_}
+use Rattle.values.specs.Outcomes.{Res, ok, err, errorNumber}
+use Rattle.values.specs.Words.{field, AllBytes}
+use Rattle.expr.specs.Operators.{operatorNumber, operatorOf, one}
+use Rattle.projection.specs.Steps.{Projected, some, none}
+use Rattle.projection.specs.declared.question.Question.{Question}
+use Rattle.projection.specs.declared.question.Question.the-variants.{Inclusive, Strict}
+use Rattle.sheet.specs.Records.{recordSize, recordAt}
+use Rattle.api.specs.Demand3.{typeIn, transformIn, widthIn, RowOf}
+use Rattle.api.specs.HoldsTest.{holdsTest}
+use Rattle.api.specs.Requests.{sheetOf}
+use Rattle.api.specs.Routines.{projectSheet}
+use Rattle.columns.specs.Cells.{rows, parts, Cell, cellsOf}
+use Rattle.columns.specs.Columns.{nameSize, entryAt}
+use Rattle.grammar.specs.Filters.{Filter, leaf, either, both, opposite, bracket}
+use Rattle.leaves.specs.Fitting.{Leaf}
+use Rattle.ask.specs.LeafAnswers.{withoutPredicate}
+use Rattle.filter.specs.FilterRoutines.{filterIn, filterRow, filterParts}
+
+-- ---- rows and their partition values
+
+-- the head record of the column at place k
+abbrev pub headAt : List ℕ → ℕ → List ℕ
+headAt c k = field nameSize recordSize (entryAt c k)
+
+-- the places of the columns that a filter's leaves name
+abbrev pub placesIn : Filter Leaf → List ℕ
+placesIn (leaf l) = l .place ∷ []
+placesIn (either f g) = placesIn f ++ placesIn g
+placesIn (both f g) = placesIn f ++ placesIn g
+placesIn (opposite f) = placesIn f
+placesIn (bracket f) = placesIn f
+
+-- v is a row and p its partition values: of each column that a leaf names v's record is a row of p's; of every other column both are readable
+pub record Rows (c t v p : List ℕ) : Type 0 where
+  pub cells : List Cell
+  pub row-cells : cellsOf rows c v ≡ ok cells
+  pub others : List Cell
+  pub part-cells : cellsOf parts c p ≡ ok others
+  pub named : (f : Filter Leaf) → filterIn (map (λ x. x .column) cells) t ≡ ok f → (k : ℕ) → Isin k (placesIn f)
+      → RowOf (headAt c k) (recordAt p k) (recordAt v k)
+
+-- ---- 02: "A whole filter loses no row that meets it, and strictly lets in none that fails"
+
+-- yes, or refused with 6 to 8
+abbrev pub Kept : Res Bool → Type 0
+Kept (ok b) = b ≡ true
+Kept (err e) = (6 ≤ errorNumber e) × (errorNumber e ≤ 8)
+
+abbrev pub FilterLosesNoRow : Type 0
+FilterLosesNoRow = (c t v p : List ℕ) → Rows c t v p → filterRow c t v ≡ ok true → Kept (filterParts Inclusive c t p)
+
+abbrev pub FilterStrictIsSafe : Type 0
+FilterStrictIsSafe = (c t v p : List ℕ) → Rows c t v p → filterParts Strict c t p ≡ ok true → filterRow c t v ≡ ok true
+
+-- ---- 02: "the exact distance is kept for single leaves": a filter of one leaf is answered as that leaf's sheet is
+
+-- the leaf as a sheet, with its column's type, transform and width. The list is of bytes: a width that four bytes do not hold has no sheet
+abbrev pub sheetIn : List ℕ → Leaf → List ℕ
+sheetIn c l = let h = headAt c (l .place) in sheetOf (operatorNumber (operatorOf (one (l .operator)))) (typeIn h) (transformIn h) (widthIn h) (l .content ∷ [])
+
+-- by what its projection returns: the holds-test of it; no predicate; or the refusal
+abbrev pub byReturned : Question → Res (Projected (List ℕ)) → List ℕ → Res Bool
+byReturned question (ok (some q)) p = holdsTest q p
+byReturned question (ok none) p = ok (withoutPredicate question)
+byReturned question (err e) p = err e
+
+abbrev pub OneLeafRow : Type 0
+OneLeafRow = (c t v : List ℕ) (cells : List Cell) (l : Leaf) → cellsOf rows c v ≡ ok cells → filterIn (map (λ x. x .column) cells) t ≡ ok (leaf l)
+    → filterRow c t v ≡ holdsTest (sheetIn c l) (recordAt v (l .place))
+
+abbrev pub OneLeafParts : Type 0
+OneLeafParts = (question : Question) (c t p : List ℕ) (cells : List Cell) (l : Leaf) → AllBytes c → cellsOf parts c p ≡ ok cells
+    → filterIn (map (λ x. x .column) cells) t ≡ ok (leaf l)
+    → filterParts question c t p ≡ byReturned question (projectSheet question (sheetIn c l)) (recordAt p (l .place))
+
+pub record FiltersLoseNothing : Type 0 where
+  pub loses-no-row : FilterLosesNoRow
+  pub strict-is-safe : FilterStrictIsSafe
+  pub one-leaf-row : OneLeafRow
+  pub one-leaf-parts : OneLeafParts

@@ -1,0 +1,59 @@
+-- The routines of filters, over bytes: a column list c, a text t, and one value record a column. The lines are in the order of the answers. Assumes nothing.
+use Prim.Native.Nat.{ℕ, suc}
+use mathlib.Core.Bool.{Bool}
+use mathlib.Core.List.{List, [], _∷_, map}
+use lib.Dec.{leb}
+use lib.ListN.{length}
+use Rattle.values.specs.Outcomes.{Res, ok, err, need, _>>=_, _>>_}
+use Rattle.values.specs.declared.error.ErrorKind.the-variants.{OutsideGrammar, TooLarge}
+use Rattle.expr.specs.Operators.{oppositeBinary}
+use Rattle.projection.specs.declared.question.Question.{Question}
+use Rattle.columns.specs.Columns.{Column}
+use Rattle.columns.specs.Cells.{Side, rows, parts, Cell, cellsOf}
+use Rattle.grammar.specs.Filters.{Filter, leaves, depth, straight, answered}
+use Rattle.grammar.specs.Parser.{Found, found, nothing, disjunction}
+use Rattle.leaves.specs.Fitting.{Leaf}
+use Rattle.leaves.specs.Symbols.{symbols}
+use Rattle.ask.specs.LeafAnswers.{rowAnswer, partAnswer}
+
+-- 02: "10 over 4,096 bytes, 32 leaves or 16 open brackets"
+abbrev pub textLimit : ℕ
+textLimit = 4096
+
+abbrev pub leafLimit : ℕ
+leafLimit = 32
+
+abbrev pub bracketLimit : ℕ
+bracketLimit = 16
+
+-- 02: "9 a text outside this grammar or an undeclared name"
+abbrev pub whole : Found Leaf → Res (Filter Leaf)
+whole (found f []) = ok f
+whole (found f (y ∷ ys)) = err OutsideGrammar
+whole nothing = err OutsideGrammar
+
+-- 02: "10 for bytes comes before 9, 9 before the other two"
+unfoldable pub filterIn : List Column → List ℕ → Res (Filter Leaf)
+filterIn cs t = do
+  need (leb (length t) textLimit) TooLarge
+  f ← whole (disjunction (suc (length (symbols cs t))) (symbols cs t))
+  need (leb (leaves f) leafLimit) TooLarge
+  need (leb (depth f) bracketLimit) TooLarge
+  ok f
+
+-- 02: "turning each leaf to its opposite operator"
+abbrev pub turn : Leaf → Leaf
+turn l = record { place = l .place; head = l .head; operator = oppositeBinary (l .operator); content = l .content }
+
+-- 3 and 4, then 10, 9 and 10, then 5 to 8: "all between 4 and 5"
+abbrev pub filtered : Side → (List Cell → Leaf → Res Bool) → List ℕ → List ℕ → List ℕ → Res Bool
+filtered side ask c t v = do
+  cells ← cellsOf side c v
+  f ← filterIn (map (λ x. x .column) cells) t
+  answered (ask cells) (straight turn f)
+
+unfoldable pub filterRow : List ℕ → List ℕ → List ℕ → Res Bool
+filterRow c t v = filtered rows rowAnswer c t v
+
+unfoldable pub filterParts : Question → List ℕ → List ℕ → List ℕ → Res Bool
+filterParts question c t v = filtered parts (partAnswer question) c t v

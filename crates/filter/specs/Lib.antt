@@ -1,0 +1,5 @@
+-- The definitions of `filter`, in the order in which to read them.
+pub mod FilterRoutines
+pub mod FilterDemand
+pub mod code
+pub mod laws

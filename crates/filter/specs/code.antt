@@ -1,0 +1,2 @@
+-- What the structs of the code of `filter` mean, as the definitions have it.
+pub mod Reading

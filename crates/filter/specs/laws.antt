@@ -1,0 +1,2 @@
+-- The laws about the definitions of `filter`.
+pub mod ReadingLaws

@@ -1,0 +1,2 @@
+// The routines of filters.
+pub mod read;

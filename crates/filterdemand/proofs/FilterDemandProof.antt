@@ -1,0 +1,178 @@
+-- Filters lose nothing, over the bytes of the routines: every leaf is fitted, each fitted leaf loses nothing, and so the whole. Assumes nothing.
+use Prim.Native.Nat.{ℕ, _*_, _≤_}
+use native.Mathlib.Omega.{arith}
+use mathlib.Core.Bool.{Bool, true}
+use mathlib.Core.List.{List, map, List·Memᴰ as Isin, List·Memᴰ·head as here, Memᴰ·append-left as isin-left, Memᴰ·append-right as isin-right}
+use mathlib.Core.Path.{_≡_, refl, sym, ap, subst, _∙_}
+use Rattle.values.specs.Outcomes.{ok}
+use Rattle.values.specs.laws.OutcomeLaws.{ok-inj, going, gone}
+use Rattle.values.specs.laws.WordLaws.{word-step}
+use Rattle.values.specs.Words.{AllBytes}
+use Rattle.expr.specs.Operators.{projectLimit, holdsLimit}
+use Rattle.projection.specs.declared.question.Question.{Question}
+use Rattle.projection.specs.declared.question.Question.the-variants.{Inclusive, Strict}
+use Rattle.sheet.specs.laws.RecordLaws.{field-bytes}
+use Rattle.sheet.specs.Records.{recordSize, recordAt}
+use Rattle.sheet.specs.Sheets.{Head, head, sheet}
+use Rattle.meets.specs.Tested.{testedSheet}
+use Rattle.answers.specs.Answers.{projectedLeaf}
+use Rattle.api.specs.Demand3.{typeIn, transformIn, widthIn, RowOf}
+use Rattle.api.specs.HoldsTest.{holdsTest}
+use Rattle.api.specs.Routines.{projectSheet}
+use Rattle.columns.specs.Cells.{Side, rows, parts, Cell, cellsOf}
+use Rattle.columns.specs.Columns.{Column, nameSize, entrySize, entryAt}
+use Rattle.grammar.specs.Filters.{Filter, leaf, either, both, opposite, bracket, straight, answered}
+use Rattle.leaves.specs.Fitting.{Leaf}
+use Rattle.ask.specs.LeafAnswers.{predicateIn, rowAnswer, partAnswer}
+use Rattle.filter.specs.FilterDemand.{headAt, placesIn, Rows, Kept, FilterLosesNoRow, FilterStrictIsSafe, sheetIn, byReturned, OneLeafRow, OneLeafParts, FiltersLoseNothing}
+use Rattle.filter.specs.FilterRoutines.{filterIn, turn, filterRow, filterParts}
+use Rattle.demand.proofs.ReadBackLaws.{sheetOf}
+use Rattle.filterdemand.proofs.CellLaws.{column-head, CellAt, cells-columns, cell-at}
+use Rattle.filterdemand.proofs.FittedLaws.{Fitted, leaf-fitted, turn-fitted}
+use Rattle.filterdemand.proofs.FoundLaws.{filter-every}
+use Rattle.filterdemand.proofs.JoinedLaws.{EveryLeaf, EveryTurned, straight-every, turned-map, every-both}
+use Rattle.filterdemand.proofs.JoinedLaws.{Follows, follows-kept, answered-follows, Leads, leads-yes, answered-leads}
+use Rattle.filterdemand.proofs.LeafAnswerLaws.{leaf-sound, leaf-returned}
+use Rattle.filterdemand.proofs.LeafSheetLaws.{held-whole, numbers, heldTransform, sheet-back}
+
+abbrev columnsOf : List Cell → List Column
+columnsOf cells = map (λ x. x .column) cells
+
+-- ---- what is so of the places that a filter names is so of its leaves' places
+named-every : (g : ℕ → Type 0) (f : Filter Leaf) → ((k : ℕ) → Isin k (placesIn f) → g k) → EveryLeaf (λ l. g (l .place)) f
+named-every g (leaf l) h = h (l .place) (here refl)
+named-every g (either f f') h = (named-every g f (λ k m. h k (isin-left (placesIn f') m)), named-every g f' (λ k m. h k (isin-right (placesIn f) m)))
+named-every g (both f f') h = (named-every g f (λ k m. h k (isin-left (placesIn f') m)), named-every g f' (λ k m. h k (isin-right (placesIn f) m)))
+named-every g (opposite f) h = named-every g f h
+named-every g (bracket f) h = named-every g f h
+
+-- every leaf that is found is fitted
+all-fitted : (cs : List Column) (t : List ℕ) (f : Filter Leaf) → filterIn cs t ≡ ok f → EveryLeaf (Fitted cs) f
+all-fitted cs t f e = filter-every cs (Fitted cs) (λ name o l x d. leaf-fitted name o l x cs d) t f e
+
+-- ---- a fitted leaf: its head, and its column's value
+module _ (side : Side) (c v : List ℕ) (cells : List Cell) (e : cellsOf side c v ≡ ok cells) (l : Leaf) (f : Fitted (columnsOf cells) l) where
+  leaf-head : let h = headAt c (l .place) in head (typeIn h) (transformIn h) (widthIn h) ≡ ok (l .head)
+  leaf-head = column-head c (columnsOf cells) (cells-columns side c v cells e) (l .place) (f .column) (f .there) ∙ ap ok (f .head-is)
+
+  -- the column, as the leaf has its head
+  abbrev withHead : Head → Column
+  withHead h = record { name = f .column .name; head = h }
+
+  leaf-cell : CellAt side v cells (l .place) (withHead (l .head))
+  leaf-cell = subst (λ h. CellAt side v cells (l .place) (withHead h)) (f .head-is) (cell-at side c v cells e (l .place) (f .column) (f .there))
+
+-- ---- whole filters
+module _ (c t v p : List ℕ) (h : Rows c t v p) where
+  abbrev cs : List Column
+  cs = columnsOf (h .cells)
+
+  same-columns : columnsOf (h .others) ≡ cs
+  same-columns = ok-inj (sym (cells-columns parts c p (h .others) (h .part-cells)) ∙ cells-columns rows c v (h .cells) (h .row-cells))
+
+  abbrev Sound : Leaf → Type 0
+  Sound l = Follows (rowAnswer (h .cells) l) (partAnswer Inclusive (h .others) l) × Leads (rowAnswer (h .cells) l) (partAnswer Strict (h .others) l)
+
+  abbrev IsRow : ℕ → Type 0
+  IsRow k = RowOf (headAt c k) (recordAt p k) (recordAt v k)
+
+  one-sound : (l : Leaf) → Fitted cs l × IsRow (l .place) → Sound l
+  one-sound l k =
+      let f = k .0 in
+      let other = subst (λ ds. Fitted ds l) (sym same-columns) f in
+      leaf-sound l (f .content-fits) (h .cells) (h .others) (headAt c (l .place)) (recordAt v (l .place)) (recordAt p (l .place))
+      (leaf-head rows c v (h .cells) (h .row-cells) l f) (k .1)
+      (leaf-cell rows c v (h .cells) (h .row-cells) l f .value-is)
+      (leaf-cell parts c p (h .others) (h .part-cells) l other .value-is)
+
+  all-sound : (f : Filter Leaf) → filterIn cs t ≡ ok f → EveryTurned Sound (straight turn f)
+  all-sound f e =
+      let both = every-both (Fitted cs) (λ l. IsRow (l .place)) f (all-fitted cs t f e) (named-every IsRow f (h .named f e)) in
+      let turned = straight-every (λ l. Fitted cs l × IsRow (l .place)) turn (λ l k. (turn-fitted cs l (k .0), k .1)) f both in
+      turned-map (λ l. Fitted cs l × IsRow (l .place)) Sound one-sound (straight turn f) (turned .0)
+
+  -- what the filter is answered, once it is found
+  row-is : (f : Filter Leaf) → filterIn cs t ≡ ok f → filterRow c t v ≡ answered (rowAnswer (h .cells)) (straight turn f)
+  unfolding filterRow
+  row-is f e = going _ (h .row-cells) ∙ going _ e
+
+  parts-is : (question : Question) (f : Filter Leaf) → filterIn cs t ≡ ok f
+      → filterParts question c t p ≡ answered (partAnswer question (h .others)) (straight turn f)
+  unfolding filterParts
+  parts-is question f e = going _ (h .part-cells) ∙ going _ (ap (λ ds. filterIn ds t) same-columns ∙ e)
+
+  row-found : {b : Bool} → filterRow c t v ≡ ok b → (f : Filter Leaf) × (filterIn cs t ≡ ok f)
+  unfolding filterRow
+  row-found e = let f = gone (filterIn cs t) _ (sym (going _ (h .row-cells)) ∙ e) in (f .0, f .1)
+
+  parts-found : (question : Question) {b : Bool} → filterParts question c t p ≡ ok b → (f : Filter Leaf) × (filterIn cs t ≡ ok f)
+  unfolding filterParts
+  parts-found question e =
+      let f = gone (filterIn (columnsOf (h .others)) t) _ (sym (going _ (h .part-cells)) ∙ e) in
+      (f .0, ap (λ ds. filterIn ds t) (sym same-columns) ∙ f .1)
+
+  kept : filterRow c t v ≡ ok true → Kept (filterParts Inclusive c t p)
+  kept e =
+      let f = row-found e in
+      let row = rowAnswer (h .cells) in
+      let part = partAnswer Inclusive (h .others) in
+      let asked = straight turn (f .0) in
+      let follows = answered-follows row part asked (turned-map Sound _ (λ l k. k .0) asked (all-sound (f .0) (f .1))) in
+      let yes : answered row asked ≡ ok true = sym (row-is (f .0) (f .1)) ∙ e in
+      subst Kept (sym (parts-is Inclusive (f .0) (f .1))) (follows-kept (answered row asked) (answered part asked) follows yes)
+
+  safe : filterParts Strict c t p ≡ ok true → filterRow c t v ≡ ok true
+  safe e =
+      let f = parts-found Strict e in
+      let row = rowAnswer (h .cells) in
+      let part = partAnswer Strict (h .others) in
+      let asked = straight turn (f .0) in
+      let leads = answered-leads row part asked (turned-map Sound _ (λ l k. k .1) asked (all-sound (f .0) (f .1))) in
+      row-is (f .0) (f .1) ∙ leads-yes (answered row asked) (answered part asked) leads (sym (parts-is Strict (f .0) (f .1)) ∙ e)
+
+loses-no-row : FilterLosesNoRow
+loses-no-row c t v p h e = kept c t v p h e
+
+strict-is-safe : FilterStrictIsSafe
+strict-is-safe c t v p h e = safe c t v p h e
+
+-- ---- a filter of one leaf
+module _ (side : Side) (c v : List ℕ) (cells : List Cell) (a : cellsOf side c v ≡ ok cells) (l : Leaf) (f : Fitted (columnsOf cells) l) where
+  -- its sheet is read as the leaf, with what four bytes hold of the width
+  leaf-read : (most : ℕ) → 1 ≤ most
+      → sheet most (sheetIn c l) ≡ ok (sheetOf (l .head .column) (heldTransform (l .head .transform)) (predicateIn l))
+  leaf-read most room =
+      let h = headAt c (l .place) in
+      let head-is = leaf-head side c v cells a l f in
+      sheet-back (typeIn h) (transformIn h) (widthIn h) (l .head) head-is (l .operator) (l .content) (f .content-fits .fit) most room
+
+  -- which is the width, of bytes
+  width-whole : AllBytes c → heldTransform (l .head .transform) ≡ l .head .transform
+  width-whole b =
+      let s = headAt c (l .place) in
+      let bytes = field-bytes nameSize recordSize (entryAt c (l .place)) (field-bytes (entrySize * l .place) entrySize c b) in
+      let width-is = numbers (typeIn s) (transformIn s) (widthIn s) (l .head) (leaf-head side c v cells a l f) .width-is in
+      held-whole (l .head .transform)
+      (omega (arith, width-is, word-step 8 3 s, word-step 9 2 s, word-step 10 1 s, word-step 11 0 s, bytes 8, bytes 9, bytes 10, bytes 11))
+
+one-leaf-row : OneLeafRow
+unfolding filterRow holdsTest rowAnswer testedSheet
+one-leaf-row c t v cells l a e =
+    let f = all-fitted (columnsOf cells) t (leaf l) e in
+    going _ a ∙ going _ e ∙ sym (going _ (leaf-read rows c v cells a l f holdsLimit (omega arith)) ∙ going _ (leaf-cell rows c v cells a l f .value-is))
+
+one-leaf-parts : OneLeafParts
+unfolding filterParts projectSheet
+one-leaf-parts question c t p cells l bytes a e =
+    let f = all-fitted (columnsOf cells) t (leaf l) e in
+    let cell = leaf-cell parts c p cells a l f in
+    let projects : projectSheet question (sheetIn c l) ≡ projectedLeaf question (l .head .column) (l .head .transform) (predicateIn l)
+    = going _ (leaf-read parts c p cells a l f projectLimit (omega arith))
+    ∙ ap (λ transform. projectedLeaf question (l .head .column) transform (predicateIn l)) (width-whole parts c p cells a l f bytes) in
+    going _ a
+    ∙ going _ e
+    ∙ leaf-returned l (f .content-fits) question cells (recordAt p (l .place)) (cell .read) (cell .value-is) (cell .read-is)
+    ∙ ap (λ r. byReturned question r (recordAt p (l .place))) (sym projects)
+
+pub filters-lose-nothing : FiltersLoseNothing
+filters-lose-nothing = record { loses-no-row = loses-no-row; strict-is-safe = strict-is-safe; one-leaf-row = one-leaf-row; one-leaf-parts = one-leaf-parts }

@@ -1,0 +1,1 @@
+// Filters lose nothing, over the bytes of the routines: the proof, in `proofs/`; there is no code.
