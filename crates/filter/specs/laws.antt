@@ -1,2 +1,4 @@
 -- The laws about the definitions of `filter`.
 pub mod ReadingLaws
+pub mod SingleReadLaws
+pub mod BracketReadLaws

@@ -5,7 +5,7 @@ use mathlib.Core.List.{List}
 use mathlib.Core.Path.{_≡_}
 use lib.Dec.{ltb}
 use lib.ListN.{length}
-use Rattle.values.specs.Outcomes.{Res, ok, err}
+use Rattle.values.specs.Outcomes.{Res}
 use Rattle.meets.specs.Tested.{heldAs}
 use Rattle.meets.specs.declared.held.Held.{Held}
 use Rattle.meets.specs.declared.held.Held.the-variants as held

@@ -18,7 +18,7 @@ use Rattle.grammar.specs.laws.ChainLaws.{begins, goes-on, Reached, reached-firs
 use Rattle.grammar.specs.laws.FilterLaws.{read, joinAs}
 use Rattle.leaves.specs.Fitting.{Leaf}
 use Rattle.filter.specs.FilterRoutines.{bracketLimit, turn}
-use Rattle.filter.specs.code.Reading.{joinHeld, Tells, Told, Says, Finds}
+use Rattle.filter.specs.code.Reading.{joinHeld, Tells, Says, Finds}
 use Rattle.filter.specs.declared.read.Read.{Read}
 
 -- ---- two answers

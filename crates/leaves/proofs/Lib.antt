@@ -1,0 +1,3 @@
+-- Lemmas that several proofs of this crate share.
+pub mod Found
+pub mod Given

@@ -1,0 +1,2 @@
+-- The laws about the definitions of `leaves`.
+pub mod SymbolLaws
