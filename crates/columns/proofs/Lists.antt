@@ -25,7 +25,9 @@ use Rattle.sheet.specs.declared.head.FieldsResult.{FieldsResult}
 use Rattle.sheet.specs.declared.head.FieldsResult.the-variants as fields-result
 use Rattle.columns.specs.Columns.{nameSize, entrySize, plainHead, firstNumbers}
 use Rattle.columns.specs.code.ColumnAnswers.{nameBytes, nameAt, headAt, readEntry, firstNames, goodTo, columnsIn, columnAt, fieldsOf, placeAmong}
-use Rattle.columns.specs.laws.ColumnLaws.{first-length, first-at, place-elem, Listed, good-next, good-all}
+use Rattle.columns.specs.laws.ColumnLaws.{Listed, good-next, good-all}
+use Rattle.columns.specs.laws.EachLaws.{first-length, first-at}
+use Rattle.columns.specs.laws.NameLaws.{place-elem}
 
 -- ---- heads
 

@@ -2,13 +2,12 @@
 use Prim.Native.Nat.{ℕ, _-_, _≤_, _<_}
 use native.Mathlib.Omega.{arith}
 use mathlib.Core.Bool.{Bool, true, false, not, _||_}
-use mathlib.Core.List.{List, [], _∷_}
+use mathlib.Core.List.{List, _∷_}
 use mathlib.Core.Path.{_≡_, refl, sym, ap, _∙_}
 use lib.ListN.{length, drop}
-use borrow.Author.Tests.{leb-true}
 use Rattle.values.specs.Characters.{ascii, following}
 use Rattle.values.specs.Order.{compareBytes, isEqual}
-use Rattle.values.specs.Types.{bytes, layout, contentSize, inType, sameType}
+use Rattle.values.specs.Types.{layout, inType, sameType}
 use Rattle.values.specs.Utf8.{utf8}
 use Rattle.values.specs.Words.{field}
 use Rattle.values.specs.laws.RangeLaws.{in-type-long, in-long}
@@ -35,56 +34,7 @@ use Rattle.leaves.specs.laws.SymbolLaws.{symbols-none, symbols-first, le
 use Rattle.leaves.specs.declared.symbol.Symbol as declared
 use Rattle.leaves.specs.declared.symbol.SymbolKind.the-variants as kind
 use Rattle.leaves.proofs.Found.{isEnd, part, Known, found, ended, begun}
-
--- ---- texts of a column
-length-fits : (column : PrimitiveType) (n : ℕ) → fitsLength (layout column) n ≡ true → (layout column ≡ bytes contentSize) × (n ≤ contentSize)
-length-fits type.Int n e = clash e refl
-length-fits type.Long n e = clash e refl
-length-fits type.Date n e = clash e refl
-length-fits type.Time n e = clash e refl
-length-fits type.Timestamp n e = clash e refl
-length-fits type.Timestamptz n e = clash e refl
-length-fits type.TimestampNs n e = clash e refl
-length-fits type.TimestamptzNs n e = clash e refl
-length-fits type.String n e = (refl, leb-true n contentSize e)
-length-fits type.Binary n e = (refl, leb-true n contentSize e)
-
-pub length-refused : (column : PrimitiveType) (n : ℕ) → contentSize < n → fitsLength (layout column) n ≡ false
-length-refused column n h = refuted _ (λ e. omega (arith, length-fits column n e .1))
-
--- ---- kinds of tokens by what they are not
-abbrev pub noLiteral : TokenKind → Bool
-noLiteral End = true
-noLiteral Word = true
-noLiteral Sign = true
-noLiteral Decimal = false
-noLiteral TooLarge = true
-noLiteral Quoted = false
-noLiteral Opening = true
-noLiteral Closing = true
-noLiteral Unreadable = true
-
-abbrev pub noOperator : TokenKind → Bool
-noOperator End = true
-noOperator Word = false
-noOperator Sign = false
-noOperator Decimal = true
-noOperator TooLarge = true
-noOperator Quoted = true
-noOperator Opening = true
-noOperator Closing = true
-noOperator Unreadable = true
-
-abbrev pub noSymbol : TokenKind → Bool
-noSymbol End = false
-noSymbol Word = false
-noSymbol Sign = true
-noSymbol Decimal = true
-noSymbol TooLarge = true
-noSymbol Quoted = true
-noSymbol Opening = false
-noSymbol Closing = false
-noSymbol Unreadable = true
+use Rattle.leaves.proofs.TokenKinds.{length-fits, noLiteral, noOperator, noSymbol}
 
 -- ---- what is read is given
 module _ (cs : List Column) (s : List ℕ) (at next : ℕ) (within : next ≤ length s) where

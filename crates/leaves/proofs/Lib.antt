@@ -1,3 +1,4 @@
 -- Lemmas that several proofs of this crate share.
 pub mod Found
+pub mod TokenKinds
 pub mod Given

@@ -19,7 +19,7 @@ use Rattle.sheet.specs.laws.ReadLaws.{bytes-row}
 use Rattle.columns.specs.Columns.{Column, columns}
 use Rattle.columns.specs.Cells.{Side, typeOf, Cell, cellsFrom, readCell, cellsOf}
 use Rattle.columns.specs.code.ColumnAnswers.{okOr, columnsIn, columnAt, noCell, cellAt, encoded, valuesResult}
-use Rattle.columns.specs.laws.ColumnLaws.{each-at}
+use Rattle.columns.specs.laws.EachLaws.{each-at}
 use Rattle.columns.specs.declared.cells.ValuesResult.{ValuesResult}
 use Rattle.columns.specs.declared.cells.ValuesResult.the-variants as values-result
 

@@ -1,108 +1,28 @@
 -- Laws of column lists: when a list is good, and what stands at each place of a good one. Assumes nothing.
 use Prim.Native.Nat.{ℕ, zero, suc, _+_, _-_, _*_, _/_, _%_, _≤_, _<_}
 use native.Mathlib.Omega.{arith}
-use mathlib.Core.Bool.{Bool, true, false, not, cond, _&&_, _||_, and-false}
-use mathlib.Core.List.{List, [], _∷_, _++_, map, map-append}
+use mathlib.Core.Bool.{Bool, true, false, not, cond, _&&_, and-false}
+use mathlib.Core.List.{List, [], _∷_, map, map-append}
 use mathlib.Core.Path.{_≡_, refl, sym, ap, _∙_}
-use lib.Dec.{ltb, leb, eqb, lit≤, leb·suc-suc}
-use lib.ListN.{length, getD, length-append, List·getD-append}
-use lib.Seq.{getD-at}
-use borrow.Author.Tests.{ltb-true, ltb-false, leb-true, eqb-true, lt-ltb}
+use lib.Dec.{ltb, leb, eqb, lit≤}
+use lib.ListN.{length}
+use borrow.Author.Tests.{ltb-true, ltb-false, leb-true, eqb-true}
 use Rattle.values.specs.Ascending.{elem}
 use Rattle.values.specs.Characters.{isLetter, leading}
-use Rattle.values.specs.Order.{compareBytes, isEqual}
+use Rattle.values.specs.Order.{compareBytes}
 use Rattle.values.specs.Outcomes.{Res, ok, err, need, each, _>>=_, _>>_}
 use Rattle.values.specs.Words.{word, zeroAt}
-use Rattle.values.specs.code.Places.{flip}
-use Rattle.values.specs.laws.AscendingLaws.{elem-append}
-use Rattle.values.specs.laws.OrderLaws.{bytes-order}
-use Rattle.values.specs.laws.OutcomeLaws.{ok-inj, passed, gone, each-cons, each-length}
+use Rattle.values.specs.laws.OutcomeLaws.{ok-inj, passed, gone, each-length}
 use Rattle.values.specs.declared.error.ErrorKind.the-variants.{Malformed}
-use Rattle.values.specs.declared.order.Ordering.{Ordering}
-use Rattle.values.specs.declared.order.Ordering.the-variants.{Less, Equal, Greater}
 use Rattle.sheet.specs.Records.{recordSize, nextIn}
 use Rattle.sheet.specs.Sheets.{Head, fields}
 use Rattle.sheet.specs.code.ReadAnswers.{isOk}
 use Rattle.sheet.specs.laws.PartLaws.{field-in-field}
 use Rattle.sheet.specs.laws.RefusalLaws.{OnlyMalformed, only-ok, only-bind, only-each, must, fields-only}
 use Rattle.columns.specs.Columns.{columnLimit, nameSize, entrySize, Column, reserved, nameIn, plainHead, column, firstNumbers, namesApart, columns}
-use Rattle.columns.specs.code.ColumnAnswers.{nameBytes, nameAt, headAt, readEntry, firstNames, goodTo, okOr, columnsIn, noColumn, columnAt, placeAmong}
-
--- ---- every member in its turn, by places
-then-ok : {A B : Type 0} (r : Res A) (f : A → B) → isOk (r >>= λ x. ok (f x)) ≡ isOk r
-then-ok (ok x) f = refl
-then-ok (err e) f = refl
-
-module _ {A B : Type 0} (f : A → Res B) where
-  pub each-at : (xs : List A) {ys : List B} → each f xs ≡ ok ys → (x : A) (y : B) (k : ℕ) → k < length xs → f (getD xs k x) ≡ ok (getD ys k y)
-  each-at [] e x y k h = absurd (omega arith)
-  each-at (a ∷ xs) e x y zero h = let c = each-cons f a xs e in rw (c .4) (c .2)
-  each-at (a ∷ xs) e x y (suc k) h = let c = each-cons f a xs e in rw (c .4) (each-at xs (c .3) x y k (omega arith))
-
-  pub each-map : {X : Type 0} (g : A → X) (h : B → X) → ((x : A) (y : B) → f x ≡ ok y → h y ≡ g x) → (xs : List A) {ys : List B} → each f xs ≡ ok ys
-      → map h ys ≡ map g xs
-  each-map g h same [] e = rw (← ok-inj e)
-  each-map g h same (x ∷ xs) e =
-      let c = each-cons f x xs e in
-      rw (c .4, same x (c .0) (c .2), each-map g h same xs (c .3))
-
-  each-last : (xs : List A) (x : A) → isOk (each f (xs ++ (x ∷ []))) ≡ (isOk (each f xs) && isOk (f x))
-  each-last [] x = then-ok (f x) (λ y. y ∷ [])
-  each-last (a ∷ xs) x = go (f a) (each-last xs x)
-    where
-      go : (r : Res B) → isOk (each f (xs ++ (x ∷ []))) ≡ (isOk (each f xs) && isOk (f x))
-          → isOk (r >>= λ y. each f (xs ++ (x ∷ [])) >>= λ ys. ok (y ∷ ys)) ≡ (isOk (r >>= λ y. each f xs >>= λ ys. ok (y ∷ ys)) && isOk (f x))
-      go (ok y) e = rw (then-ok (each f (xs ++ (x ∷ []))) (λ ys. y ∷ ys), then-ok (each f xs) (λ ys. y ∷ ys)) e
-      go (err k) e = refl
-
-pub first-length : (n : ℕ) → length (firstNumbers n) ≡ n
-first-length zero = refl
-first-length (suc n) = omega (arith, length-append (firstNumbers n) (n ∷ []), first-length n)
-
-pub first-at : (n k : ℕ) → k < n → getD (firstNumbers n) k 0 ≡ k
-first-at zero k h = absurd (omega arith)
-first-at (suc n) k h = go (ltb k n) refl (first-at n k)
-  where
-    go : (t : Bool) → ltb k n ≡ t → (k < n → getD (firstNumbers n) k 0 ≡ k) → getD (firstNumbers n ++ (n ∷ [])) k 0 ≡ k
-    go true e rest =
-        let less = ltb-true k n e in
-        List·getD-append (firstNumbers n) (n ∷ []) 0 k (omega (arith, first-length n)) ∙ rest less
-    go false e rest =
-        let same : n ≡ k = omega (arith, ltb-false k n e) in
-        getD-at (firstNumbers n) n [] 0 k (first-length n ∙ same) ∙ same
-
--- ---- names
-
-same-either-way : (a b : List ℕ) → isEqual (compareBytes a b) ≡ isEqual (compareBytes b a)
-same-either-way a b = sym (ap isEqual (bytes-order .flips a b) ∙ turned (compareBytes a b))
-  where
-    turned : (o : Ordering) → isEqual (flip o) ≡ isEqual o
-    turned Less = refl
-    turned Equal = refl
-    turned Greater = refl
-
-apart-last : (ns : List (List ℕ)) (n : List ℕ) → namesApart (ns ++ (n ∷ [])) ≡ (namesApart ns && not (elem compareBytes n ns))
-apart-last [] n = refl
-apart-last (m ∷ ns) n =
-    rw (elem-append compareBytes m ns (n ∷ []), apart-last ns n, same-either-way m n)
-    (tests (isEqual (compareBytes n m)) (elem compareBytes m ns) (elem compareBytes n ns) (namesApart ns))
-  where
-    tests : (a b d e : Bool) → (not (b || (a || false)) && (e && not d)) ≡ (not b && e && not (a || d))
-    tests true true d e = refl
-    tests false true d e = refl
-    tests false false d e = refl
-    tests true false d true = refl
-    tests true false d false = refl
-
--- a name stands among others where its place is before their end
-pub place-elem : (name : List ℕ) (ns : List (List ℕ)) → ltb (placeAmong name ns) (length ns) ≡ elem compareBytes name ns
-place-elem name [] = refl
-place-elem name (n ∷ ns) = go (isEqual (compareBytes name n)) (place-elem name ns)
-  where
-    go : (t : Bool) → ltb (placeAmong name ns) (length ns) ≡ elem compareBytes name ns
-        → ltb (cond t 0 (suc (placeAmong name ns))) (suc (length ns)) ≡ (t || elem compareBytes name ns)
-    go true e = lt-ltb 0 (suc (length ns)) (omega arith)
-    go false e = leb·suc-suc (suc (placeAmong name ns)) (length ns) ∙ e
+use Rattle.columns.specs.code.ColumnAnswers.{nameBytes, nameAt, headAt, readEntry, firstNames, goodTo, okOr, columnsIn, noColumn, columnAt}
+use Rattle.columns.specs.laws.EachLaws.{then-ok, each-at, each-map, each-last, first-length, first-at}
+use Rattle.columns.specs.laws.NameLaws.{apart-last}
 
 -- ---- one entry
 

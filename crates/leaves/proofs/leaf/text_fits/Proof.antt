@@ -11,7 +11,7 @@ use Rattle.values.specs.declared.datatypes.PrimitiveType.the-variants.{String, 
 use Rattle.values.proofs.Arms.{but, agree}
 use Rattle.values.proofs.datatypes.PrimitiveType.{enum}
 use Rattle.leaves.specs.Fitting.{text, fits}
-use Rattle.leaves.proofs.Given.{length-refused}
+use Rattle.leaves.proofs.TokenKinds.{length-refused}
 use Rattle.leaves.proofs.leaf.text_fits.Statement.{statement}
 use Rattle.leaves.proofs.leaf.text_fits.Tie as tie
 

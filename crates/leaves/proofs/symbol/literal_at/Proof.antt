@@ -14,7 +14,8 @@ use Rattle.tokens.specs.declared.token.TokenKind.the-variants.{Decimal, Quoted}
 use Rattle.tokens.proofs.token.TokenKind.{enum}
 use Rattle.leaves.specs.Fitting.{text, fits}
 use Rattle.leaves.proofs.Found.{part, number-held}
-use Rattle.leaves.proofs.Given.{noLiteral, number-given, number-refused, text-given, text-refused, no-literal}
+use Rattle.leaves.proofs.Given.{number-given, number-refused, text-given, text-refused, no-literal}
+use Rattle.leaves.proofs.TokenKinds.{noLiteral}
 use Rattle.leaves.proofs.symbol.literal_at.Statement.{statement}
 use Rattle.leaves.proofs.symbol.literal_at.Tie as tie
 

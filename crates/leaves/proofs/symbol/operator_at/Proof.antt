@@ -6,7 +6,8 @@ use borrow.Author.Needs.{needs}
 use Rattle.values.proofs.Arms.{but, agree}
 use Rattle.tokens.specs.declared.token.TokenKind.the-variants.{Word, Sign}
 use Rattle.tokens.proofs.token.TokenKind.{enum}
-use Rattle.leaves.proofs.Given.{noOperator, sign-given, startswith-given, word-refused, no-operator}
+use Rattle.leaves.proofs.Given.{sign-given, startswith-given, word-refused, no-operator}
+use Rattle.leaves.proofs.TokenKinds.{noOperator}
 use Rattle.leaves.proofs.symbol.operator_at.Statement.{statement}
 use Rattle.leaves.proofs.symbol.operator_at.Tie as tie
 

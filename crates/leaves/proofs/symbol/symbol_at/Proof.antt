@@ -8,7 +8,8 @@ use Rattle.tokens.specs.declared.token.TokenKind.{TokenKind}
 use Rattle.tokens.specs.declared.token.TokenKind.the-variants.{End, Word, Opening, Closing}
 use Rattle.tokens.proofs.token.TokenKind.{enum}
 use Rattle.leaves.proofs.Found.{isEnd}
-use Rattle.leaves.proofs.Given.{noSymbol, end-symbol, word-symbol, opening-symbol, closing-symbol, no-symbol}
+use Rattle.leaves.proofs.Given.{end-symbol, word-symbol, opening-symbol, closing-symbol, no-symbol}
+use Rattle.leaves.proofs.TokenKinds.{noSymbol}
 use Rattle.leaves.proofs.symbol.symbol_at.Statement.{statement}
 use Rattle.leaves.proofs.symbol.symbol_at.Tie as tie
 
