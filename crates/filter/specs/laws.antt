@@ -2,3 +2,4 @@
 pub mod ReadingLaws
 pub mod SingleReadLaws
 pub mod BracketReadLaws
+pub mod AskingLaws
