@@ -3,3 +3,4 @@ pub mod ReadingLaws
 pub mod SingleReadLaws
 pub mod BracketReadLaws
 pub mod AskingLaws
+pub mod SymbolKindLaws
