@@ -1,2 +1,4 @@
 -- What the structs of the code of `filter` mean, as the definitions have it.
 pub mod Reading
+pub mod Asking
+pub mod SkimAnswers

@@ -2,3 +2,5 @@
 pub mod ReadingLaws
 pub mod SingleReadLaws
 pub mod BracketReadLaws
+pub mod AskingLaws
+pub mod SymbolKindLaws

@@ -1,2 +1,4 @@
 // The routines of filters.
+pub mod join;
 pub mod read;
+pub mod skim;

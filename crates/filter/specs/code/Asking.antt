@@ -1,0 +1,20 @@
+-- What is asked of the leaves of a filter, as the code has it. Assumes nothing.
+use mathlib.Core.Bool.{Bool}
+use mathlib.Core.List.{List}
+use Rattle.values.specs.Outcomes.{Res}
+use Rattle.projection.specs.declared.question.Question.the-variants as question
+use Rattle.columns.specs.Cells.{Side, rows, parts, Cell}
+use Rattle.leaves.specs.Fitting.{Leaf}
+use Rattle.ask.specs.LeafAnswers.{rowAnswer, partAnswer}
+use Rattle.ask.specs.declared.asked.Asked.{Asked}
+use Rattle.ask.specs.declared.asked.Asked.the-variants as asked
+
+abbrev pub sideFor : Asked → Side
+sideFor asked.Row = rows
+sideFor asked.Inclusive = parts
+sideFor asked.Strict = parts
+
+abbrev pub askIn : Asked → List Cell → Leaf → Res Bool
+askIn asked.Row cells l = rowAnswer cells l
+askIn asked.Inclusive cells l = partAnswer question.Inclusive cells l
+askIn asked.Strict cells l = partAnswer question.Strict cells l
