@@ -2,3 +2,4 @@
 pub mod Reading
 pub mod Asking
 pub mod SkimAnswers
+pub mod FilterReads

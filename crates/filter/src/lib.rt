@@ -1,4 +1,7 @@
 // The routines of filters.
+pub mod filter;
 pub mod join;
+pub mod leaf;
+pub mod parse;
 pub mod read;
 pub mod skim;

@@ -1,13 +1,17 @@
 -- What is asked of the leaves of a filter, as the code has it. Assumes nothing.
+use Prim.Native.Nat.{ℕ}
 use mathlib.Core.Bool.{Bool}
-use mathlib.Core.List.{List}
-use Rattle.values.specs.Outcomes.{Res}
+use mathlib.Core.List.{List, []}
+use Rattle.values.specs.Outcomes.{Res, _>>=_}
 use Rattle.projection.specs.declared.question.Question.the-variants as question
-use Rattle.columns.specs.Cells.{Side, rows, parts, Cell}
+use Rattle.columns.specs.Cells.{Side, rows, parts, Cell, cellsOf}
+use Rattle.columns.specs.code.ColumnAnswers.{okOr, columnsIn}
+use Rattle.grammar.specs.Filters.{straight, answered}
 use Rattle.leaves.specs.Fitting.{Leaf}
 use Rattle.ask.specs.LeafAnswers.{rowAnswer, partAnswer}
 use Rattle.ask.specs.declared.asked.Asked.{Asked}
 use Rattle.ask.specs.declared.asked.Asked.the-variants as asked
+use Rattle.filter.specs.FilterRoutines.{filterIn, turn, filtered}
 
 abbrev pub sideFor : Asked → Side
 sideFor asked.Row = rows
@@ -18,3 +22,16 @@ abbrev pub askIn : Asked → List Cell → Leaf → Res Bool
 askIn asked.Row cells l = rowAnswer cells l
 askIn asked.Inclusive cells l = partAnswer question.Inclusive cells l
 askIn asked.Strict cells l = partAnswer question.Strict cells l
+
+-- the values beside a list, and none where they are broken
+unfoldable pub cellsIn : Side → List ℕ → List ℕ → List Cell
+cellsIn side c v = okOr [] (cellsOf side c v)
+
+-- what a text is answered, of columns and values that are there
+abbrev pub textAnswered : Asked → List ℕ → List ℕ → List ℕ → Res Bool
+textAnswered a c v t = do
+  f ← filterIn (columnsIn c) t
+  answered (askIn a (cellsIn (sideFor a) c v)) (straight turn f)
+
+abbrev pub filterAnswered : Asked → List ℕ → List ℕ → List ℕ → Res Bool
+filterAnswered a c t v = filtered (sideFor a) (askIn a) c t v

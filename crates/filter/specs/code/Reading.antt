@@ -14,6 +14,7 @@ use Rattle.grammar.specs.Grammar.{Symbol}
 use Rattle.grammar.specs.Parser.{Found, found, nothing, Parser}
 use Rattle.grammar.specs.laws.FilterLaws.{read, joinAs}
 use Rattle.leaves.specs.Fitting.{Leaf}
+use Rattle.leaves.specs.declared.symbol.SymbolKind.{SymbolKind}
 use Rattle.filter.specs.FilterRoutines.{bracketLimit, turn}
 use Rattle.filter.specs.declared.read.Read.{Read}
 
@@ -31,6 +32,11 @@ abbrev pub joinHeld : Bool → Held → Held → Held
 joinHeld all held.Yes b = joinYes all true b
 joinHeld all held.No b = joinYes all false b
 joinHeld all (held.Err e) b = held.Err e
+
+-- a filter up to `next`, and the symbol after it, which is of a kind and ends at `past`
+abbrev pub filterTo : ℕ → ℕ → Bool → Held → SymbolKind → ℕ → Read
+filterTo next count deep answer ahead past =
+    record { found = true; next = next; ahead = ahead; past = past; leaves = count; deep = deep; answer = answer }
 
 module _ (after : ℕ → List (Symbol Leaf)) (size : ℕ) (ask : Leaf → Res Bool) where
   -- what is told of a filter under so many nots and open brackets: where too many are open, only that

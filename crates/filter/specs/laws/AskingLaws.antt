@@ -59,7 +59,7 @@ opposed operator.NotStartsWith b e = ap (λ z. one (oppositeBinary z)) (one-inj 
 opposed operator.In b e = clash refl (ap takesOne (sym e))
 opposed operator.NotIn b e = clash refl (ap takesOne (sym e))
 
-turned-operator : (negate : Bool) (l : Leaf) (o : PredicateOperator) → byArity o ≡ one (l .operator)
+pub turned-operator : (negate : Bool) (l : Leaf) (o : PredicateOperator) → byArity o ≡ one (l .operator)
     → byArity (askedAs negate o) ≡ one (cond negate (turn l) l .operator)
 turned-operator true l o e = opposed o (l .operator) e
 turned-operator false l o e = e

@@ -19,8 +19,9 @@ use Rattle.grammar.specs.laws.FilterLaws.{read-bracket}
 use Rattle.grammar.specs.laws.ParserLaws.{single-is}
 use Rattle.grammar.specs.laws.SkimmingLaws.{skimmed, skimming}
 use Rattle.leaves.specs.Fitting.{Leaf}
+use Rattle.leaves.specs.declared.symbol.SymbolKind.{SymbolKind}
 use Rattle.filter.specs.FilterRoutines.{bracketLimit, turn}
-use Rattle.filter.specs.code.Reading.{Tells, Told, Says, Finds}
+use Rattle.filter.specs.code.Reading.{filterTo, Tells, Told, Says, Finds}
 use Rattle.filter.specs.laws.SingleReadLaws.{none-found}
 use Rattle.filter.specs.declared.read.Read.{Read}
 
@@ -59,11 +60,11 @@ module _ (after : ℕ → List (Symbol Leaf)) (size : ℕ) (ask : Leaf → Res B
 
   -- ---- what is in the brackets was read
   module _ (r : Read) (h : Finds after size ask disjunction start negate (opened + 1) r) where
-    pub inner-none : r .found ≡ false → Finds after size ask single at negate opened r
-    inner-none e = none-found after size ask at negate opened r e (λ n m. rw goes (go n (disjunction n (after start)) (h .says n (omega (arith, length-at)))))
+    pub inner-none : r .found ≡ false → (q : Read) → q .found ≡ false → Finds after size ask single at negate opened q
+    inner-none e q none = none-found after size ask at negate opened q none (λ n m. rw goes (go n (disjunction n (after start)) (h .says n (omega (arith, length-at)))))
       where
-        go : (n : ℕ) (x : Found Leaf) → Says after size ask negate (opened + 1) r x → Says after size ask negate opened r (x >>= closed)
-        go n nothing d = d
+        go : (n : ℕ) (x : Found Leaf) → Says after size ask negate (opened + 1) r x → Says after size ask negate opened q (x >>= closed)
+        go n nothing d = none
         go n (found f rest) d = clash (d .there) e
 
     module _ (there : r .found ≡ true) where
@@ -74,9 +75,9 @@ module _ (after : ℕ → List (Symbol Leaf)) (size : ℕ) (ask : Leaf → Res B
           go n nothing d = clash there d
           go n (found f rest) d = rw (← d .left, not-closed f (after (r .next)) other) e
 
-      pub bracket-read : (end : ℕ) → after (r .next) ≡ closing ∷ after end → r .next < end → end ≤ size
-          → Finds after size ask single at negate opened (record { found = true; next = end; leaves = r .leaves; deep = r .deep; answer = r .answer })
-      bracket-read end shut past-it room = record {
+      pub bracket-read : (end : ℕ) (ahead : SymbolKind) (to : ℕ) → after (r .next) ≡ closing ∷ after end → r .next < end → end ≤ size
+          → Finds after size ask single at negate opened (filterTo end (r .leaves) (r .deep) (r .answer) ahead to)
+      bracket-read end ahead to shut past-it room = record {
         within = λ t. room;
         few = λ t. omega (arith, h .few there);
         forward = λ t. omega (arith, h .forward there);
@@ -85,7 +86,7 @@ module _ (after : ℕ → List (Symbol Leaf)) (size : ℕ) (ask : Leaf → Res B
       }
         where
           q : Read
-          q = record { found = true; next = end; leaves = r .leaves; deep = r .deep; answer = r .answer }
+          q = filterTo end (r .leaves) (r .deep) (r .answer) ahead to
 
           told : (f : Filter Leaf) → Tells after size ask negate (opened + 1) (r .deep) (r .leaves) (r .answer) f → Told after size ask negate opened q (bracket f) (after end)
           told f t = record {
@@ -118,9 +119,9 @@ module _ (after : ℕ → List (Symbol Leaf)) (size : ℕ) (ask : Leaf → Res B
       go (found f rest) d = absurd (true≢false (ap isPast d))
 
   pub skim-one : bracketLimit ≤ opened → (end : ℕ) → operand (after start) 0 ≡ past (after end) → start < end → end ≤ size
-      → length (after end) < length (after start) → (answer : Held)
-      → Finds after size ask single at negate opened (record { found = true; next = end; leaves = 0; deep = true; answer = answer })
-  skim-one many end shut later room fewer answer = record {
+      → length (after end) < length (after start) → (answer : Held) (ahead : SymbolKind) (to : ℕ)
+      → Finds after size ask single at negate opened (filterTo end 0 true answer ahead to)
+  skim-one many end shut later room fewer answer ahead to = record {
     within = λ t. room;
     few = λ t. omega arith;
     forward = λ t. omega arith;
@@ -129,7 +130,7 @@ module _ (after : ℕ → List (Symbol Leaf)) (size : ℕ) (ask : Leaf → Res B
   }
     where
       q : Read
-      q = record { found = true; next = end; leaves = 0; deep = true; answer = answer }
+      q = filterTo end 0 true answer ahead to
 
       told : (f : Filter Leaf) (rest : List (Symbol Leaf)) → past rest ≡ past (after end) → Told after size ask negate opened q (bracket f) rest
       told f rest d = record {

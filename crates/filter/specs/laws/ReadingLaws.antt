@@ -17,8 +17,9 @@ use Rattle.grammar.specs.Parser.{Found, found, nothing, _>>=_, Parser, more, ch
 use Rattle.grammar.specs.laws.ChainLaws.{begins, goes-on, Reached, reached-first, reached-next, reached-last}
 use Rattle.grammar.specs.laws.FilterLaws.{read, joinAs}
 use Rattle.leaves.specs.Fitting.{Leaf}
+use Rattle.leaves.specs.declared.symbol.SymbolKind.{SymbolKind}
 use Rattle.filter.specs.FilterRoutines.{bracketLimit, turn}
-use Rattle.filter.specs.code.Reading.{joinHeld, Tells, Says, Finds}
+use Rattle.filter.specs.code.Reading.{joinHeld, filterTo, Tells, Says, Finds}
 use Rattle.filter.specs.declared.read.Read.{Read}
 
 -- ---- two answers
@@ -109,9 +110,9 @@ module _ (after : ℕ → List (Symbol Leaf)) (size : ℕ) (ask : Leaf → Res B
         }
 
   module _ (at next : ℕ) (deep : Bool) (count : ℕ) (answer : Held) (c : Chained at next deep count answer) where
-    pub chain-done : begins isWord (after next) ≡ false
-        → Finds after size ask Chain at negate opened (record { found = true; next = next; leaves = count; deep = deep; answer = answer })
-    chain-done other = record {
+    pub chain-done : (ahead : SymbolKind) (past : ℕ) → begins isWord (after next) ≡ false
+        → Finds after size ask Chain at negate opened (filterTo next count deep answer ahead past)
+    chain-done ahead past other = record {
       within = λ t. c .within;
       few = λ t. c .few;
       forward = λ t. c .forward;

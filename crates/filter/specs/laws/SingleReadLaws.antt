@@ -16,9 +16,21 @@ use Rattle.grammar.specs.Parser.{Found, found, nothing, _>>=_, singleWith, sing
 use Rattle.grammar.specs.laws.FilterLaws.{read-leaf, read-opposite}
 use Rattle.grammar.specs.laws.ParserLaws.{single-is}
 use Rattle.leaves.specs.Fitting.{Leaf}
+use Rattle.leaves.specs.declared.symbol.SymbolKind.{SymbolKind}
 use Rattle.filter.specs.FilterRoutines.{bracketLimit, turn}
-use Rattle.filter.specs.code.Reading.{Told, Says, Finds}
+use Rattle.filter.specs.code.Reading.{filterTo, Told, Says, Finds}
 use Rattle.filter.specs.declared.read.Read.{Read}
+
+-- a filter begins with a leaf, `not` or a bracket
+abbrev pub beginsFilter : List (Symbol Leaf) → Bool
+beginsFilter [] = false
+beginsFilter (leafOf l ∷ ts) = true
+beginsFilter (andWord ∷ ts) = false
+beginsFilter (orWord ∷ ts) = false
+beginsFilter (notWord ∷ ts) = true
+beginsFilter (opening ∷ ts) = true
+beginsFilter (closing ∷ ts) = false
+beginsFilter (unreadable ∷ ts) = false
 
 module _ (after : ℕ → List (Symbol Leaf)) (size : ℕ) (ask : Leaf → Res Bool) (at : ℕ) (negate : Bool) (opened : ℕ) where
   -- where nothing is found, that is all there is to show; the parser's number is one more than what stands behind the first symbol needs
@@ -37,17 +49,6 @@ module _ (after : ℕ → List (Symbol Leaf)) (size : ℕ) (ask : Leaf → Res B
       go zero m = absurd (omega arith)
       go (suc n) m = rw (single-is n (after at)) (k n m)
 
-  -- what begins with none of a leaf, `not` and a bracket
-  abbrev pub beginsFilter : List (Symbol Leaf) → Bool
-  beginsFilter [] = false
-  beginsFilter (leafOf l ∷ ts) = true
-  beginsFilter (andWord ∷ ts) = false
-  beginsFilter (orWord ∷ ts) = false
-  beginsFilter (notWord ∷ ts) = true
-  beginsFilter (opening ∷ ts) = true
-  beginsFilter (closing ∷ ts) = false
-  beginsFilter (unreadable ∷ ts) = false
-
   pub other-read : (r : Read) → r .found ≡ false → beginsFilter (after at) ≡ false → Finds after size ask single at negate opened r
   other-read r e b = none-found r e (λ n m. go n (after at) b)
     where
@@ -64,9 +65,9 @@ module _ (after : ℕ → List (Symbol Leaf)) (size : ℕ) (ask : Leaf → Res B
   module _ (start : ℕ) (onward : at < start) where
     -- ---- a leaf
     module _ (l : Leaf) (goes : after at ≡ leafOf l ∷ after start) (room : start ≤ size) (few : opened ≤ bracketLimit) where
-      pub leaf-read : (answer : Held) → answer ≡ heldAs (ask (cond negate (turn l) l))
-          → Finds after size ask single at negate opened (record { found = true; next = start; leaves = 1; deep = false; answer = answer })
-      leaf-read answer is = record {
+      pub leaf-read : (answer : Held) (ahead : SymbolKind) (past : ℕ) → answer ≡ heldAs (ask (cond negate (turn l) l))
+          → Finds after size ask single at negate opened (filterTo start 1 false answer ahead past)
+      leaf-read answer ahead past is = record {
         within = λ t. room;
         few = λ t. omega arith;
         forward = λ t. onward;
@@ -74,7 +75,7 @@ module _ (after : ℕ → List (Symbol Leaf)) (size : ℕ) (ask : Leaf → Res B
         says = λ n m. go n m;
       }
         where
-          told : Told after size ask negate opened (record { found = true; next = start; leaves = 1; deep = false; answer = answer }) (leaf l) (after start)
+          told : Told after size ask negate opened (filterTo start 1 false answer ahead past) (leaf l) (after start)
           told = record {
             there = refl;
             left = refl;
@@ -86,7 +87,7 @@ module _ (after : ℕ → List (Symbol Leaf)) (size : ℕ) (ask : Leaf → Res B
           }
 
           go : (n : ℕ) → length (after at) < n
-              → Says after size ask negate opened (record { found = true; next = start; leaves = 1; deep = false; answer = answer }) (single n (after at))
+              → Says after size ask negate opened (filterTo start 1 false answer ahead past) (single n (after at))
           go zero m = absurd (omega arith)
           go (suc n) m = rw (single-is n (after at), goes) told
 

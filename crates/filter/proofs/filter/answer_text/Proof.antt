@@ -1,0 +1,42 @@
+-- `filter::answer_text` meets its contract. Assumes nothing.
+use mathlib.Core.Bool.{false}
+use mathlib.Core.List.{[], _∷_}
+use mathlib.Core.Path.{refl}
+use borrow.Author.Needs.{needs}
+use Rattle.values.proofs.Arms.{but, agree}
+use Rattle.leaves.proofs.symbol.SymbolKind.{enum}
+use Rattle.leaves.specs.declared.symbol.SymbolKind.the-variants as kind
+use Rattle.filter.proofs.Ahead.{isKind}
+use Rattle.filter.proofs.Texts.{too-long, outside, too-deep, too-many, all-answered}
+use Rattle.filter.proofs.filter.answer_text.Statement.{statement}
+use Rattle.filter.proofs.filter.answer_text.Tie as tie
+
+returns : tie.Need-returns
+returns c = rw (too-long _ _ _ _ (c .if1 .taken))
+
+returns-2 : tie.Need-returns-2
+returns-2 c =
+    let k = c .before in
+    let other = agree enum tt (isKind kind.End) (λ x. false) (but enum tt (kind.End ∷ [])) (k .parse-or .result .ahead) (c .match .keys2) refl in
+    rw (outside _ _ _ _ (k .before .if1 .left) (k .parse-or .ensures) other)
+
+returns-3 : tie.Need-returns-3
+returns-3 c =
+    let e = c .before in
+    let k = e .before .before in
+    rw (too-deep _ _ _ _ (k .before .if1 .left) (k .parse-or .ensures) (e .enum-told .given .1) (c .if2 .taken))
+
+returns-4 : tie.Need-returns-4
+returns-4 c =
+    let d = c .before .before in
+    let k = d .before .before .before in
+    rw (too-many _ _ _ _ (k .before .if1 .left) (k .parse-or .ensures) (d .before .enum-told .given .1) (d .if2 .left) (c .if3 .taken))
+
+returns-5 : tie.Need-returns-5
+returns-5 c =
+    let d = c .before .before in
+    let k = d .before .before .before in
+    all-answered _ _ _ _ (k .before .if1 .left) (k .parse-or .ensures) (d .before .enum-told .given .1) (d .if2 .left) (c .if3 .left)
+
+pub answer-text-spec : {M : Type 1} → statement M
+answer-text-spec = tie.close (tie.spec returns (λ c κs. search needs) (search needs) returns-2 returns-3 returns-4 returns-5)
