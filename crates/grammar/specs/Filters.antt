@@ -1,6 +1,7 @@
 -- Filters: leaves with and, or, not and brackets between them; what `not` makes of one, and what one is answered. Assumes nothing.
 use Prim.Native.Nat.{ℕ, suc, _+_, max}
 use mathlib.Core.Bool.{Bool, _&&_, _||_}
+use mathlib.Core.Path.{_≡_, refl}
 use Rattle.values.specs.Outcomes.{Res, ok, _>>=_}
 
 -- a filter as it is written: brackets are kept, so that open ones can be counted
@@ -25,6 +26,13 @@ depth (either f g) = max (depth f) (depth g)
 depth (both f g) = max (depth f) (depth g)
 depth (opposite f) = depth f
 depth (bracket f) = suc (depth f)
+
+-- (1) and (2) has one bracket open at a time, ((1)) has two
+side-by-side : depth {L = ℕ} (both (bracket (leaf 1)) (bracket (leaf 2))) ≡ 1
+side-by-side = refl
+
+nested : depth {L = ℕ} (bracket (bracket (leaf 1))) ≡ 2
+nested = refl
 
 -- ---- 02: "`not` is read by turning each leaf to its opposite operator and swapping and with or"
 

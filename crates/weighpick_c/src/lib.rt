@@ -4,12 +4,16 @@ use api::holds::holds;
 use api::literal::transform_literal;
 use api::project::project;
 use api::project::strict_project;
+use filter::filter::filter_project;
+use filter::filter::filter_row;
+use filter::filter::filter_strict_project;
 ghost use mathlib.Core.Path.{_≡_};
 ghost use Rattle.projection.specs.declared.question.Question.the-variants.{Inclusive, Strict};
 ghost use Rattle.answers.specs.Answers.{answerNumber, answerCount};
 ghost use Rattle.meets.specs.Tested.{heldAs, heldNumber};
 ghost use Rattle.api.specs.HoldsTest.{holdsTest};
 ghost use Rattle.api.specs.Routines.{projectAnswer, projectLeaves, transformAnswer, transformLeaves};
+ghost use Rattle.filter.specs.FilterRoutines.{filterRow, filterParts};
 
 // Sets the count of an answer, and gives its number.
 fn told(answer: Answer, count: &mut u64) -> u32
@@ -62,4 +66,25 @@ pub extern "C" fn weighpick_holds(sheet: &[u8], value: &[u8]) -> u32
     ensures { λ r. ⌜ r ≡ heldNumber (heldAs (holdsTest (now (sheet .entry)) (now (value .entry)))) ⌝ }
 {
     holds(sheet, value).number()
+}
+
+#[no_mangle]
+pub extern "C" fn weighpick_filter_row(columns: &[u8], text: &[u8], values: &[u8]) -> u32
+    ensures { λ r. ⌜ r ≡ heldNumber (heldAs (filterRow (now (columns .entry)) (now (text .entry)) (now (values .entry)))) ⌝ }
+{
+    filter_row(columns, text, values).number()
+}
+
+#[no_mangle]
+pub extern "C" fn weighpick_filter_project(columns: &[u8], text: &[u8], values: &[u8]) -> u32
+    ensures { λ r. ⌜ r ≡ heldNumber (heldAs (filterParts Inclusive (now (columns .entry)) (now (text .entry)) (now (values .entry)))) ⌝ }
+{
+    filter_project(columns, text, values).number()
+}
+
+#[no_mangle]
+pub extern "C" fn weighpick_filter_strict_project(columns: &[u8], text: &[u8], values: &[u8]) -> u32
+    ensures { λ r. ⌜ r ≡ heldNumber (heldAs (filterParts Strict (now (columns .entry)) (now (text .entry)) (now (values .entry)))) ⌝ }
+{
+    filter_strict_project(columns, text, values).number()
 }
