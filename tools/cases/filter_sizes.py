@@ -4,7 +4,7 @@ from model import TEXT_BYTES, LEAVES, BRACKETS, INT, STRING
 from .tables import Group, Table
 
 TABLE, VALUES = Table(a=(INT,), s=(STRING,)), (0, b"x")
-LONG = 4000  # bytes of a long word or literal
+MANY = 4000  # bytes of a long word or literal
 
 
 def nested(inner, depth):
@@ -49,16 +49,16 @@ def long_texts(once):
         once(count % 2, b"not " * count + b"a<1")
     once(9, b"not " * 1000)
     # digits: the number counts, and not how many there are
-    zeros = b"7".rjust(LONG, b"0")
+    zeros = b"7".rjust(MANY, b"0")
     once(0, b"a<" + zeros)
     once(0, b"a>-" + zeros)
     once(1, b"a>" + zeros)
     once(9, b"a<" + zeros[::-1])
-    once(9, b"a!=" + b"7".rjust(LONG, b"1"))
-    once(9, b"a!=-" + b"1".ljust(LONG, b"0"))
-    once(9, b"a" * LONG + b"<1")
-    once(9, b"s='" + b"a" * LONG + b"'")
-    once(9, b"s!='" + b"a" * LONG)
+    once(9, b"a!=" + b"7".rjust(MANY, b"1"))
+    once(9, b"a!=-" + b"1".ljust(MANY, b"0"))
+    once(9, b"a" * MANY + b"<1")
+    once(9, b"s='" + b"a" * MANY + b"'")
+    once(9, b"s!='" + b"a" * MANY)
 
 
 def leaves(ask):

@@ -1,4 +1,5 @@
-"""A filter's text: its tokens, its symbols (leaves, words and brackets), and these in postfix order. 9, then 10."""
+"""A filter's text: its tokens, its symbols (leaves, words and brackets), and these in postfix order. Bytes are judged first, then
+the grammar, then leaves and brackets: 10, 9, 10."""
 import collections
 import re
 
