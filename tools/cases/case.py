@@ -4,7 +4,7 @@ import collections
 import model
 from model import SHEET_ROOM, VALUE_ROOM
 
-HOLDS, PROJECT, STRICT_PROJECT, TRANSFORM, TEXT, PROGRAM = range(6)
+HOLDS, PROJECT, STRICT_PROJECT, TRANSFORM, TEXT, PROGRAM, FILTER_ROW, FILTER_PROJECT, FILTER_STRICT_PROJECT = range(9)
 Case = collections.namedtuple("Case", "group routine number column transform width inputs result lent")
 
 
@@ -41,3 +41,14 @@ class Cases:
         printed = model.printed(sheet)
         assert told in (None, printed), (group, sheet, told)
         self.all.append(Case(group, PROGRAM, int(printed.split()[1]), 0, 0, 0, [sheet], printed, 0))
+
+    def filter_row(self, group, columns, text, values, told=None):
+        self.filtered(group, FILTER_ROW, model.filter_row(columns, text, values), [columns, text, values], told)
+
+    def filter_project(self, group, strict, columns, text, values, told=None):
+        routine = FILTER_STRICT_PROJECT if strict else FILTER_PROJECT
+        self.filtered(group, routine, model.filter_project(strict, columns, text, values), [columns, text, values], told)
+
+    def filtered(self, group, routine, number, inputs, told):
+        assert told in (None, number), (group, routine, number, inputs, told)
+        self.all.append(Case(group, routine, number, 0, 0, 0, inputs, b"", 0))

@@ -24,6 +24,19 @@ GROUPS = {
     16: "the crate's answers",
     17: "where the specification decides",
     18: "program `weighpick`",
+    19: "filters: document 02's example",
+    20: "filters: column lists",
+    21: "filters: values",
+    22: "filters: words and signs",
+    23: "filters: literals",
+    24: "filters: every byte",
+    25: "filters: precedence",
+    26: "filters: not",
+    27: "filters: sizes",
+    28: "filters: order of the answers",
+    29: "filters: every operator, type and transform",
+    30: "filters: at random",
+    31: "filters: one byte damaged",
 }
 HEADER, INPUTS = struct.Struct("<BBBBBxIHHHHH"), 3
 

@@ -1,4 +1,4 @@
-"""Document 01's numbers: sizes, types, transforms, operators and refusals; and a type's literals as bytes."""
+"""Document 01's numbers: sizes, types, transforms, operators and refusals; and a type's literals as bytes. Sizes of filters."""
 
 RECORD, CONTENT_AT, MISSING = 64, 4, 65535
 CONTENT = RECORD - CONTENT_AT
@@ -8,6 +8,9 @@ ANSWER_LITERALS = 2 * LITERALS  # the most of an answer sheet, and of one to tes
 SHEET_RECORDS, ANSWER_RECORDS = 1 + LITERALS, 1 + ANSWER_LITERALS
 LARGEST_SHEET = RECORD * SHEET_RECORDS
 SHEET_ROOM, VALUE_ROOM = RECORD * ANSWER_RECORDS, RECORD
+NAME, COLUMNS = 16, 8  # a column's name in a list, and the most columns of one
+ENTRY = NAME + RECORD
+TEXT_BYTES, LEAVES, BRACKETS = 4096, 32, 16  # the most of a filter; brackets that are open at one place
 
 INT, LONG, DATE, TIME, TS, TSTZ, TSNS, TSTZNS, STRING, BINARY = TYPES = range(1, 11)
 IDENTITY, TRUNCATE, YEAR, MONTH, DAY, HOUR, VOID, UNKNOWN = TRANSFORMS = range(0, 8)
@@ -22,7 +25,7 @@ I64 = range(-(2**63), 2**63)
 
 
 class Refused(Exception):
-    """One of the answers 3 to 8."""
+    """One of the answers from 3 on."""
 
     def __init__(self, number):
         super().__init__(number)

@@ -1,7 +1,7 @@
 """Sheets and values as bytes: read with the refusals 3 and 4, and written as answers and as questions."""
 from .codes import (
     RECORD, CONTENT_AT, CONTENT, MISSING, RESERVED, STRING, TYPES, TRUNCATE, TRANSFORMS, UNARY, SETS, OPERATORS,
-    Refused, need, size, literal_bytes,
+    need, size, literal_bytes,
 )
 
 # ---- reading: 3, then 4
@@ -23,15 +23,21 @@ def check_head(column, transform, width):
     need(width == 0 or transform == TRUNCATE, 3)
 
 
+def read_head(head):
+    """Type, transform and width of a head, whatever its next and operator."""
+    column, transform, width = head[4], head[5], word(head, 8, 4)
+    check_head(column, transform, width)
+    need(not any(head[at] for part in RESERVED for at in part), 3)
+    return column, transform, width
+
+
 def read_sheet(sheet, most_records):
     """Operator, type, transform, width and the literals' bytes."""
     need(len(sheet) % RECORD == 0 and 1 <= len(sheet) // RECORD <= most_records, 3)
     records = [sheet[i : i + RECORD] for i in range(0, len(sheet), RECORD)]
-    head = records[0]
-    operator, column, transform, width = word(head, 2, 2), head[4], head[5], word(head, 8, 4)
+    operator = word(records[0], 2, 2)
     need(operator in OPERATORS, 3)
-    check_head(column, transform, width)
-    need(not any(head[at] for part in RESERVED for at in part), 3)
+    column, transform, width = read_head(records[0])
     literals, at = [], 0
     while following := word(records[at], 0, 2):
         need(at < following < len(records), 3)
@@ -50,14 +56,16 @@ def read_value(value, column):
     return read_content(value, column)
 
 
+def is_utf8(bs):
+    try:
+        bs.decode("utf-8", "strict")
+    except UnicodeDecodeError:
+        return False
+    return True
+
+
 def check_utf8(column, texts):
-    if column != STRING:
-        return
-    for bs in texts:
-        try:
-            bs.decode("utf-8", "strict")
-        except UnicodeDecodeError:
-            raise Refused(4) from None
+    need(column != STRING or all(map(is_utf8, texts)), 4)
 
 
 # ---- writing

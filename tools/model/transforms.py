@@ -11,9 +11,11 @@ FIRST_DAY, LAST_DAY = -96465292, 95026236  # the calendar's ends
 
 
 def result_type(column, transform):
-    """The type of a partition value; 5 where the pair is not valid."""
-    if transform in (IDENTITY, VOID, UNKNOWN):
+    """The type of a partition value; 5 where the pair is not valid. Unknown's is the Rust's: only a filter's values show it."""
+    if transform in (IDENTITY, VOID):
         return column
+    if transform == UNKNOWN:
+        return STRING
     if transform == TRUNCATE:
         need(column in (INT, LONG, STRING, BINARY), 5)
         return column

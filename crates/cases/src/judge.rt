@@ -1,14 +1,18 @@
-// One case: the routine is asked, or the program run, and its answer held against the one that document 01 gives.
+// One case: the routine is asked, or the program run, and its answer held against the one that the papers give.
 use answers::answer::Answer;
 use api::holds::holds;
 use api::literal::transform_literal;
 use api::project::project;
 use api::project::strict_project;
+use filter::filter::filter_project;
+use filter::filter::filter_row;
+use filter::filter::filter_strict_project;
+use meets::held::Held;
 use text::program::OUTPUT_SIZE;
 use text::program::print_sheet;
 use values::order::starts_with;
 
-// The routines' numbers in a case; any other is the transform of one value.
+// The routines' numbers in a case; any other below the filters' is the transform of one value.
 const HOLDS_TEST: u8 = 0;
 
 const INCLUSIVE: u8 = 1;
@@ -17,6 +21,11 @@ const STRICT: u8 = 2;
 
 // Not a routine, but all that program `weighpick` prints.
 const PROGRAM: u8 = 5;
+
+// Filters have the highest numbers; the one after these is the strict question.
+const FILTER_ROW: u8 = 6;
+
+const FILTER_INCLUSIVE: u8 = 7;
 
 // What a lent buffer holds before the call: a byte that steps from place to place, so that bytes that were moved show too.
 const FIRST_FILLER: u8 = 165;
@@ -111,6 +120,31 @@ fn is_held(expected: u8, sheet: &[u8], value: &[u8], result: &[u8]) -> bool {
     holds(sheet, value).number() == expected as u32
 }
 
+// Asks one of the three routines of filters.
+fn ask_filter(routine: u8, columns: &[u8], text: &[u8], values: &[u8]) -> Held {
+    if routine == FILTER_ROW {
+        return filter_row(columns, text, values);
+    }
+    if routine == FILTER_INCLUSIVE {
+        return filter_project(columns, text, values);
+    }
+    filter_strict_project(columns, text, values)
+}
+
+// Whether such a routine gives the number expected; it has no result.
+fn is_filtered(
+    question: Question,
+    columns: &[u8],
+    text: &[u8],
+    values: &[u8],
+    result: &[u8],
+) -> bool {
+    if result.len() != 0 {
+        return false;
+    }
+    ask_filter(question.routine, columns, text, values).number() == question.expected as u32
+}
+
 // Whether the program prints these bytes for a sheet, and leaves every later byte of its buffer.
 fn is_printed(sheet: &[u8], lines: &[u8]) -> bool {
     let mut out = [0; OUTPUT_SIZE];
@@ -133,6 +167,9 @@ pub fn is_right(
     third: &[u8],
     result: &[u8],
 ) -> bool {
+    if FILTER_ROW <= question.routine {
+        return is_filtered(question, first, second, third, result);
+    }
     if third.len() != 0 {
         return false;
     }

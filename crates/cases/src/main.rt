@@ -1,5 +1,5 @@
-// Runs the cases on standard input (tools/make-cases) through the four routines and program `weighpick`, and prints how many of each group and answer came out
-// right and wrong.
+// Runs the cases on standard input (tools/make-cases) through the routines and program `weighpick`, and prints how many of each group and answer came out right
+// and wrong.
 mod judge;
 
 use judge::Question;
@@ -16,7 +16,7 @@ const HEADER_SIZE: usize = 20;
 // The number in a header of what is no case but a text to print, before the counts of the cases since the last one.
 const TEXT: u8 = 4;
 
-// What was read: a case, and whether it came out as document 01 says; a text, which was printed; or the end of the input.
+// What was read: a case, and whether it came out as the papers say; a text, which was printed; or the end of the input.
 enum Ran {
     Case(bool),
     Text,
