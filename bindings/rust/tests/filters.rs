@@ -84,7 +84,7 @@ fn words_and_brackets() -> Result<(), Error> {
         ("not a=1 and b=1", |a, b, _| !a && b),
         ("not a=1 or b=1 and not c=1", |a, b, c| !a || b && !c),
         ("not (a=1 and b=1) or c=1", |a, b, c| !(a && b) || c),
-        ("not (a=1 or not b=1) and c=1", |a, b, c| !(a || !b) && c),
+        ("not (a=1 or not b=1) and c=1", |a, b, c| !a && b && c),
         ("not not a=1 or not not not b=1", |a, b, _| a || !b),
         ("not((not((a=1)))and(b!=1))or(c>1)", |a, b, _| a || b),
     ];
