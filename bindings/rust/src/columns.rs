@@ -22,7 +22,8 @@ const RESERVED: [&str; 4] = ["and", "or", "not", "startswith"];
 /// The columns that a [`Filter`](crate::Filter) can name: each has a name, a type, and the transform that splits the table by it.
 ///
 /// A name is 1 to [`NAME`] of the letters a to z, none of the words `and`, `or`, `not` and `startswith`, and no other column's. A
-/// list has 1 to [`COLUMNS`] columns, and is kept as its bytes.
+/// list has 1 to [`COLUMNS`] columns, and is kept as its bytes. A column that the table is not split by has
+/// [`Transform::Void`], and missing partition values: its leaves pass no file over.
 ///
 /// ```
 /// use weighpick::{ColumnError, Columns, Transform, Type};
