@@ -1,9 +1,12 @@
 /*
- * weighpick: leaf projection over weighing sheets, for C99 and C++.
+ * weighpick: leaf projection over weighing sheets, and filters, for C99 and C++.
  *
  * A sheet is a chain of records. Record 0, the head, says operator, column type, transform and width; every further record on
  * the chain is a literal. A projection answers with such a sheet, the predicate that partition values are tested with. A value is
- * one literal record. Numbers in records are little-endian, two's complement. docs/FORMAT.md says all of it, with an example.
+ * one literal record. Numbers in records are little-endian, two's complement.
+ *
+ * A filter is a text, as `lot startswith 'ab' and not (grams < 300 or grams = 500)`, over a list of named columns; values are one
+ * value record a column, side by side. docs/FORMAT.md says all of it, with examples.
  *
  * The routines take bytes of every kind, keep no state and may run on several threads at once. Any lent memory must be readable
  * (`out` and `count`: writable) for its whole length; no pointer may be null, also with a length of 0; `out` and `count` may not
@@ -24,21 +27,28 @@ extern "C" {
 
 /* What a routine returns. After every number but WEIGHPICK_RESULT nothing was written and the count is 0. */
 enum weighpick_answer {
-    WEIGHPICK_RESULT = 0,              /* result written; for the holds-test: yes */
-    WEIGHPICK_NONE = 1,                /* no predicate; for the holds-test: no */
+    WEIGHPICK_RESULT = 0,              /* result written; for the holds-test and for a filter: yes */
+    WEIGHPICK_NONE = 1,                /* no predicate; for the holds-test and for a filter: no */
     WEIGHPICK_BUFFER_TOO_SMALL = 2,    /* result buffer under WEIGHPICK_SHEET_BUFFER (WEIGHPICK_VALUE_BUFFER for one value) */
-    WEIGHPICK_MALFORMED = 3,           /* malformed sheet or value */
+    WEIGHPICK_MALFORMED = 3,           /* malformed sheet, value or column list */
     WEIGHPICK_NOT_UTF8 = 4,            /* a String literal or value is not UTF-8 */
     WEIGHPICK_NO_RESULT_TYPE = 5,      /* the transform does not apply to the column's type */
     WEIGHPICK_DATA_INVALID = 6,        /* calendar or width exceeded, where the crate iceberg answers DataInvalid */
     WEIGHPICK_FEATURE_UNSUPPORTED = 7, /* transform Unknown; Truncate of a Binary */
-    WEIGHPICK_OVERFLOW = 8             /* a number leaves its type, where the crate iceberg panics or wraps */
+    WEIGHPICK_OVERFLOW = 8,            /* a number leaves its type, where the crate iceberg panics or wraps */
+    WEIGHPICK_OUTSIDE_GRAMMAR = 9,     /* no filter, a name that is not in the list, or a literal that does not fit its column */
+    WEIGHPICK_TOO_LARGE = 10           /* over WEIGHPICK_TEXT bytes, WEIGHPICK_LEAVES leaves or WEIGHPICK_BRACKETS open brackets */
 };
 
-/* Sizes, in bytes unless they count literals. */
+/* Sizes, in bytes unless they count something else. */
 #define WEIGHPICK_RECORD 64     /* a record */
 #define WEIGHPICK_LITERALS 64   /* the most literals of a sheet to be projected */
 #define WEIGHPICK_MISSING 65535 /* the length that marks a value as missing */
+#define WEIGHPICK_NAME 16       /* a column's name in a list, with the zeros behind it */
+#define WEIGHPICK_COLUMNS 8     /* the most columns of a list */
+#define WEIGHPICK_TEXT 4096     /* the most bytes of a filter's text */
+#define WEIGHPICK_LEAVES 32     /* the most leaves of a filter */
+#define WEIGHPICK_BRACKETS 16   /* the most brackets of a filter that are open at one place */
 
 /* The most content of a record: a String or Binary. */
 #define WEIGHPICK_CONTENT (WEIGHPICK_RECORD - WEIGHPICK_CONTENT_AT)
@@ -50,6 +60,8 @@ enum weighpick_answer {
 #define WEIGHPICK_SHEET_BUFFER (WEIGHPICK_RECORD * (1 + WEIGHPICK_ANSWER_LITERALS))
 /* The least result buffer of one value's transform. */
 #define WEIGHPICK_VALUE_BUFFER WEIGHPICK_RECORD
+/* An entry of a column list: a name, and a head with next and operator 0. */
+#define WEIGHPICK_COLUMN (WEIGHPICK_NAME + WEIGHPICK_RECORD)
 
 /* Where the fields of a record lie; the rest of a record is zero. */
 #define WEIGHPICK_NEXT_AT 0      /* 2 bytes: number of the next record on the chain, above this one's; 0 ends it */
@@ -116,6 +128,23 @@ uint32_t weighpick_transform(uint8_t column_type, uint8_t transform, uint32_t wi
 
 /* Holds-test: whether a value meets a sheet's leaf, or a partition value an answer sheet's predicate. */
 uint32_t weighpick_holds(const uint8_t *sheet, size_t sheet_len, const uint8_t *value, size_t value_len);
+
+/*
+ * Filters. `columns` is a list of 1 to WEIGHPICK_COLUMNS entries, `text` the filter's bytes, without a zero behind them, and
+ * `values` one value record a column, in the list's order. Nothing is written.
+ */
+
+/* Whether a row meets a filter. */
+uint32_t weighpick_filter_row(const uint8_t *columns, size_t columns_len, const uint8_t *text, size_t text_len,
+                              const uint8_t *values, size_t values_len);
+
+/* Inclusive question: no only if no row with these partition values meets the filter. */
+uint32_t weighpick_filter_project(const uint8_t *columns, size_t columns_len, const uint8_t *text, size_t text_len,
+                                  const uint8_t *values, size_t values_len);
+
+/* Strict question: yes only if every row with these partition values meets the filter. */
+uint32_t weighpick_filter_strict_project(const uint8_t *columns, size_t columns_len, const uint8_t *text, size_t text_len,
+                                         const uint8_t *values, size_t values_len);
 
 #ifdef __cplusplus
 }

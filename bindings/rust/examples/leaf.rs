@@ -1,13 +1,8 @@
 //! Takes a leaf in words and prints what program `weighpick` prints for its sheet.
 
-use std::env;
-use std::ffi::OsString;
 use std::process::ExitCode;
 
 mod words;
-
-/// The exit status after wrong words.
-const WRONG_WORDS: u8 = 2;
 
 const USAGE: &str = "\
 usage: leaf TYPE TRANSFORM OPERATOR [LITERAL ..]     prints both projections of a leaf, as program weighpick does
@@ -23,23 +18,8 @@ as in:
   leaf date month is-null";
 
 fn main() -> ExitCode {
-    let given: Result<Vec<String>, OsString> =
-        env::args_os().skip(1).map(OsString::into_string).collect();
-    if given.as_ref().is_ok_and(|given| words::ask_for_help(given)) {
-        println!("{USAGE}");
-        return ExitCode::SUCCESS;
-    }
-    let leaf = given
-        .map_err(|_| "a word is not UTF-8".to_string())
-        .and_then(|given| words::leaf(&given));
-    match leaf {
-        Ok(leaf) => {
-            print!("{}", words::lines(&leaf));
-            ExitCode::SUCCESS
-        }
-        Err(wrong) => {
-            eprintln!("{wrong}\n{USAGE}");
-            ExitCode::from(WRONG_WORDS)
-        }
-    }
+    words::run(USAGE, |given| {
+        let leaf = words::leaf::leaf(given)?;
+        Ok(words::leaf::lines(&leaf))
+    })
 }

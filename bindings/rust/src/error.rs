@@ -2,12 +2,12 @@
 
 use std::fmt::{self, Display, Formatter};
 
-use crate::{LeafError, ParseError, Refusal, ValueError};
+use crate::{ColumnError, LeafError, ParseError, Refusal, RowError, ValueError};
 
 /// Any error of this crate, for functions that build leaves, ask the library and hand on what goes wrong with `?`.
 ///
 /// Not every error should end a query: after a refusal of a projection every file is read, which is what
-/// [`Leaf::picker`](crate::Leaf::picker) does.
+/// [`Leaf::picker`](crate::Leaf::picker) and [`Filter::pick`](crate::Filter::pick) do.
 ///
 /// ```
 /// use weighpick::{Error, Leaf, Literal, PredicateOperator, Refusal, Transform, Value};
@@ -30,6 +30,10 @@ pub enum Error {
     Leaf(LeafError),
     /// A value is none of the column.
     Value(ValueError),
+    /// A column list could not be built.
+    Column(ColumnError),
+    /// Values are no row, and no partition values, of a column list.
+    Row(RowError),
     /// The library refused.
     Refused(Refusal),
     /// A text could not be read.
@@ -45,6 +49,18 @@ impl From<LeafError> for Error {
 impl From<ValueError> for Error {
     fn from(error: ValueError) -> Error {
         Error::Value(error)
+    }
+}
+
+impl From<ColumnError> for Error {
+    fn from(error: ColumnError) -> Error {
+        Error::Column(error)
+    }
+}
+
+impl From<RowError> for Error {
+    fn from(error: RowError) -> Error {
+        Error::Row(error)
     }
 }
 
@@ -66,6 +82,8 @@ impl Display for Error {
         match self {
             Error::Leaf(error) => error.fmt(f),
             Error::Value(error) => error.fmt(f),
+            Error::Column(error) => error.fmt(f),
+            Error::Row(error) => error.fmt(f),
             Error::Refused(refusal) => refusal.fmt(f),
             Error::Text(error) => error.fmt(f),
         }

@@ -43,6 +43,30 @@ extern "C" {
         value: *const u8,
         value_len: usize,
     ) -> u32;
+    fn weighpick_filter_row(
+        columns: *const u8,
+        columns_len: usize,
+        text: *const u8,
+        text_len: usize,
+        values: *const u8,
+        values_len: usize,
+    ) -> u32;
+    fn weighpick_filter_project(
+        columns: *const u8,
+        columns_len: usize,
+        text: *const u8,
+        text_len: usize,
+        values: *const u8,
+        values_len: usize,
+    ) -> u32;
+    fn weighpick_filter_strict_project(
+        columns: *const u8,
+        columns_len: usize,
+        text: *const u8,
+        text_len: usize,
+        values: *const u8,
+        values_len: usize,
+    ) -> u32;
 }
 
 /// Memory for a result that goes with the call. It starts with a line of the cache, of 64 bytes, so that a record lies in as few
@@ -80,6 +104,13 @@ impl<const N: usize> Own<N> {
 pub(crate) enum Question {
     Inclusive,
     Strict,
+}
+
+/// What the values are that a filter is asked of: a row, or partition values under one of the two questions.
+#[derive(Clone, Copy)]
+pub(crate) enum Asked {
+    Row,
+    Partition(Question),
 }
 
 /// What a value is transformed under, in document 01's numbers.
@@ -188,4 +219,24 @@ pub(crate) fn transform<T>(
 pub(crate) fn holds(sheet: &[u8], value: &[u8]) -> u32 {
     // SAFETY: both pointers come from live references and go with their slices' lengths; nothing is written.
     unsafe { weighpick_holds(sheet.as_ptr(), sheet.len(), value.as_ptr(), value.len()) }
+}
+
+/// A filter's answer; gives document 01's number.
+pub(crate) fn filter(asked: Asked, columns: &[u8], text: &[u8], values: &[u8]) -> u32 {
+    let routine = match asked {
+        Asked::Row => weighpick_filter_row,
+        Asked::Partition(Question::Inclusive) => weighpick_filter_project,
+        Asked::Partition(Question::Strict) => weighpick_filter_strict_project,
+    };
+    // SAFETY: the three pointers come from live references and go with their slices' lengths; nothing is written.
+    unsafe {
+        routine(
+            columns.as_ptr(),
+            columns.len(),
+            text.as_ptr(),
+            text.len(),
+            values.as_ptr(),
+            values.len(),
+        )
+    }
 }

@@ -28,17 +28,45 @@
 //!
 //! This crate only turns types into bytes and back. Every answer is given by the static library `weighpick_c`, whose routines are
 //! proved: they take bytes of every kind, keep no state and may be called from several threads at once. `docs/FORMAT.md` in the
-//! repository says what lies in sheets, records and answers; "document 01" in these pages is the customer's paper behind it.
+//! repository says what lies in sheets, records, filters and answers; "document 01" in these pages is the customer's paper behind
+//! it.
 //!
 //! [`sheet`] has the same over bytes, for callers that keep their buffers. [`Error`] takes every error of this crate.
+//!
+//! # Filters
+//!
+//! A [`Filter`] is a text over several [`Columns`], with and, or, not and brackets. It is asked of a [`Row`], and of a
+//! [`Partition`], the partition values of a file, under both questions; [`Filter::pick`] keeps the rule above for it.
+//!
+//! ```
+//! use weighpick::{Columns, Filter, Literal, Pick, Transform, Type};
+//!
+//! let lot = ("lot", Type::String, Transform::Truncate(4));
+//! let grams = ("grams", Type::Int, Transform::Truncate(10));
+//! let columns = Columns::new([lot, grams])?;
+//! let filter = Filter::new(&columns, "lot startswith 'ab' and not (grams < 300 or grams = 500)");
+//! filter.check()?; // tells whoever typed it
+//!
+//! for (partition_value, expected) in [(310, Pick::Whole), (500, Pick::Filter), (290, Pick::Skip)] {
+//!     let file = columns.partition(&["ab12".into(), Literal::Int(partition_value).into()])?;
+//!     assert_eq!(filter.pick(&file), expected);
+//! }
+//! let row = columns.row(&["ab12x".into(), Literal::Int(501).into()])?;
+//! assert!(filter.row(&row)?);
+//! # Ok::<(), weighpick::Error>(())
+//! ```
 
 #![deny(missing_docs)]
 #![deny(unsafe_code)]
 
 mod bytes;
+mod column_error;
+mod columns;
 mod contents;
 mod error;
 mod ffi;
+pub mod filter;
+mod filters;
 mod leaf;
 mod leaf_error;
 mod literal;
@@ -49,6 +77,8 @@ mod predicate;
 mod record;
 mod refusal;
 mod routines;
+mod row_error;
+mod rows;
 pub mod sheet;
 mod sheets;
 mod text;
@@ -57,7 +87,10 @@ mod types;
 mod value;
 mod value_error;
 
+pub use column_error::ColumnError;
+pub use columns::Columns;
 pub use error::Error;
+pub use filters::Filter;
 pub use leaf::Leaf;
 pub use leaf_error::LeafError;
 pub use literal::Literal;
@@ -66,6 +99,8 @@ pub use parse_error::ParseError;
 pub use picker::{Pick, Picker};
 pub use predicate::Predicate;
 pub use refusal::Refusal;
+pub use row_error::RowError;
+pub use rows::{Partition, Row};
 pub use transform::Transform;
 pub use types::Type;
 pub use value::Value;

@@ -3,14 +3,14 @@
 use crate::record::EMPTY;
 use crate::{Leaf, Predicate, Refusal, Type, Value, ValueError};
 
-/// What is done with a file, by its partition value.
+/// What is done with a file, by its partition value, or by its partition values.
 #[derive(Clone, Copy, Debug, PartialEq, Eq, Hash)]
 pub enum Pick {
-    /// No row of it meets the leaf: it is passed over.
+    /// No row of it meets the leaf or filter: it is passed over.
     Skip,
-    /// Some of its rows may meet the leaf: it is read, and each row is tested.
+    /// Some of its rows may: it is read, and each row is tested.
     Filter,
-    /// All of its rows meet the leaf: it is read, and no row need be tested.
+    /// All of its rows do: it is read, and no row need be tested.
     Whole,
 }
 

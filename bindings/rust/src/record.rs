@@ -51,12 +51,22 @@ pub(crate) fn head_record(
     column_type: Type,
     transform: Transform,
 ) -> Record {
-    let numbers = u64::from(operator.number()) << 16
-        | u64::from(column_type.number()) << 32
-        | u64::from(transform.number()) << 40;
+    let numbers = u64::from(next) | u64::from(operator.number()) << 16;
+    head_with(numbers, column_type, transform)
+}
+
+/// The head in an entry of a column list: next and operator are 0.
+pub(crate) fn column_head(column_type: Type, transform: Transform) -> Record {
+    head_with(0, column_type, transform)
+}
+
+/// A head of which the first two fields, next and operator, are given.
+#[inline]
+fn head_with(first_fields: u64, column_type: Type, transform: Transform) -> Record {
+    let numbers = u64::from(column_type.number()) << 32 | u64::from(transform.number()) << 40;
     let mut record = EMPTY;
     let width = u64::from(transform.width());
-    put_words(&mut record, u64::from(next) | numbers, width);
+    put_words(&mut record, first_fields | numbers, width);
     record
 }
 

@@ -1,4 +1,4 @@
-//! Why the library refuses: document 01's answers 2 to 8.
+//! Why the library refuses: document 01's answers 2 to 8, and 9 and 10, which filters add.
 
 use std::error::Error;
 use std::fmt::{self, Display, Formatter};
@@ -20,7 +20,7 @@ pub enum Refusal {
     /// The result buffer is under [`SHEET_BUFFER`](crate::sheet::SHEET_BUFFER) bytes, or for one value under
     /// [`VALUE_BUFFER`](crate::sheet::VALUE_BUFFER).
     BufferTooSmall = 2,
-    /// A sheet or value against the rules of its format.
+    /// A sheet, a value or a column list against the rules of its format.
     Malformed = 3,
     /// A String literal or value is not UTF-8.
     NotUtf8 = 4,
@@ -32,11 +32,16 @@ pub enum Refusal {
     FeatureUnsupported = 7,
     /// A number leaves its type; the crate iceberg panics or wraps there.
     Overflow = 8,
+    /// A text that is no filter, that names a column which is not in the list, or a literal of which does not fit its column.
+    OutsideGrammar = 9,
+    /// A text of more than [`TEXT`](crate::filter::TEXT) bytes, or a filter of more than [`LEAVES`](crate::filter::LEAVES) leaves
+    /// or [`BRACKETS`](crate::filter::BRACKETS) open brackets.
+    TooLarge = 10,
 }
 
 impl Refusal {
     /// All refusals, by number.
-    pub const ALL: [Refusal; 7] = [
+    pub const ALL: [Refusal; 9] = [
         Refusal::BufferTooSmall,
         Refusal::Malformed,
         Refusal::NotUtf8,
@@ -44,6 +49,8 @@ impl Refusal {
         Refusal::DataInvalid,
         Refusal::FeatureUnsupported,
         Refusal::Overflow,
+        Refusal::OutsideGrammar,
+        Refusal::TooLarge,
     ];
 
     /// Document 01's number.
@@ -61,7 +68,7 @@ impl Display for Refusal {
     fn fmt(&self, f: &mut Formatter<'_>) -> fmt::Result {
         f.write_str(match self {
             Refusal::BufferTooSmall => "the result buffer is too small",
-            Refusal::Malformed => "malformed sheet or value",
+            Refusal::Malformed => "malformed sheet, value or column list",
             Refusal::NotUtf8 => "a string is not UTF-8",
             Refusal::NoResultType => "the transform does not apply to the column's type",
             Refusal::DataInvalid => {
@@ -69,6 +76,8 @@ impl Display for Refusal {
             }
             Refusal::FeatureUnsupported => "the transform is not supported here",
             Refusal::Overflow => "a number leaves the range of its type",
+            Refusal::OutsideGrammar => "the text is no filter over these columns",
+            Refusal::TooLarge => "the filter has too many bytes, leaves or open brackets",
         })
     }
 }

@@ -1,13 +1,13 @@
-//! The four routines over bytes, with the answer numbers as results.
+//! The routines over bytes, with the answer numbers as results.
 
-use crate::ffi::{self, Question, Setting};
+use crate::ffi::{self, Asked, Question, Setting};
 use crate::record::Record;
 use crate::{Refusal, Transform, Type};
 
-/// Document 01's answer 0: there is a result, or the value holds.
+/// Document 01's answer 0: there is a result, or the answer is yes.
 const RESULT: u32 = 0;
 
-/// Document 01's answer 1: there is no predicate, or the value does not hold.
+/// Document 01's answer 1: there is no predicate, or the answer is no.
 const NONE: u32 = 1;
 
 /// The refusal with a number that the library gave.
@@ -120,7 +120,13 @@ pub fn transform_into<'a>(
 /// The holds-test: whether the value in a record meets a sheet's leaf, or an answer sheet's predicate. It takes up to
 /// [`ANSWER_LITERALS`](crate::sheet::ANSWER_LITERALS) literals and looks at neither transform nor width.
 pub fn holds(sheet: &[u8], value: &[u8]) -> Result<bool, Refusal> {
-    match ffi::holds(sheet, value) {
+    said(ffi::holds(sheet, value))
+}
+
+/// A yes, a no or a refusal, by its number.
+#[inline]
+fn said(number: u32) -> Result<bool, Refusal> {
+    match number {
         RESULT => Ok(true),
         NONE => Ok(false),
         number => Err(refusal(number)),
@@ -130,4 +136,35 @@ pub fn holds(sheet: &[u8], value: &[u8]) -> Result<bool, Refusal> {
 /// The holds-test of a sheet and a value that this crate wrote, of one type: neither is refused.
 pub(crate) fn meets(sheet: &[u8], value: &Record) -> bool {
     holds(sheet, value).expect("a sheet and a value of its type are well-formed")
+}
+
+/// Whether a row meets a filter. `values` are the records of one value a column, in the order of the list; each has its column's
+/// type.
+///
+/// ```
+/// use weighpick::filter::filter_row;
+/// use weighpick::{Columns, Literal, Refusal, Transform, Type};
+///
+/// let columns = Columns::new([("grams", Type::Int, Transform::Truncate(10))])?;
+/// let row = columns.row(&[Literal::Int(290).into()])?;
+/// assert_eq!(filter_row(columns.as_bytes(), b"grams < 300", row.as_bytes()), Ok(true));
+/// assert_eq!(filter_row(columns.as_bytes(), b"grams < 300", &[]), Err(Refusal::Malformed));
+/// # Ok::<(), weighpick::Error>(())
+/// ```
+pub fn filter_row(columns: &[u8], text: &[u8], values: &[u8]) -> Result<bool, Refusal> {
+    said(ffi::filter(Asked::Row, columns, text, values))
+}
+
+/// The inclusive question of a filter: no only where no row of these partition values meets it. Each value has the result type of
+/// its column's transform, else the column's; the rest is as for [`filter_row`].
+pub fn filter_project(columns: &[u8], text: &[u8], values: &[u8]) -> Result<bool, Refusal> {
+    let asked = Asked::Partition(Question::Inclusive);
+    said(ffi::filter(asked, columns, text, values))
+}
+
+/// The strict question of a filter: yes only where every row of these partition values meets it. The values are as for
+/// [`filter_project`].
+pub fn filter_strict_project(columns: &[u8], text: &[u8], values: &[u8]) -> Result<bool, Refusal> {
+    let asked = Asked::Partition(Question::Strict);
+    said(ffi::filter(asked, columns, text, values))
 }

@@ -107,6 +107,15 @@ impl Transform {
         }
     }
 
+    /// The type that a filter takes a column's partition values in: the result type, else the column's. Unknown's is String, as in
+    /// the crate iceberg.
+    pub(crate) fn partition_type(self, column_type: Type) -> Type {
+        match self {
+            Transform::Unknown => Type::String,
+            _ => self.result_type(column_type).unwrap_or(column_type),
+        }
+    }
+
     /// The partition value of a value in a column of a type.
     ///
     /// ```

@@ -5,8 +5,8 @@ mod support;
 use support::sample::Random;
 use weighpick::sheet::{CONTENT, LITERALS};
 use weighpick::{
-    Error, Leaf, LeafError, Literal, ParseError, Predicate, PredicateOperator, Refusal, Transform,
-    Type, Value, ValueError,
+    ColumnError, Columns, Error, Leaf, LeafError, Literal, ParseError, Predicate,
+    PredicateOperator, Refusal, Row, RowError, Transform, Type, Value, ValueError,
 };
 
 /// How many leaves are tried.
@@ -80,12 +80,19 @@ fn one_error_takes_them_all() {
     assert_eq!(value(), Err(Error::Value(wrong)));
     let text = || -> Result<Type, Error> { Ok("float".parse::<Type>()?) };
     assert!(matches!(text(), Err(Error::Text(_))));
+    let row = |name, values: &[Value]| -> Result<Row, Error> {
+        let columns = Columns::new([(name, Type::Int, Transform::Identity)])?;
+        Ok(columns.row(values)?)
+    };
+    assert_eq!(row("", &[]), Err(Error::Column(ColumnError::NoName)));
+    let wrong = RowError::WrongCount(1, 0);
+    assert_eq!(row("grams", &[]), Err(Error::Row(wrong)));
 }
 
 #[test]
 fn the_words_are_those_of_the_error_inside() {
     let parse: Result<Type, ParseError> = "float".parse();
-    let errors: [(Error, String); 4] = [
+    let errors: [(Error, String); 6] = [
         (
             LeafError::TooMany(LITERALS).into(),
             LeafError::TooMany(LITERALS).to_string(),
@@ -93,6 +100,14 @@ fn the_words_are_those_of_the_error_inside() {
         (
             ValueError::TooLong(CONTENT + 1).into(),
             format!("a value has {} bytes, at most {CONTENT} fit", CONTENT + 1),
+        ),
+        (
+            ColumnError::Twice("lot".to_string()).into(),
+            "two columns have the name `lot`".to_string(),
+        ),
+        (
+            RowError::WrongCount(2, 1).into(),
+            "2 values are asked for, one a column, and not 1".to_string(),
         ),
         (Refusal::Overflow.into(), Refusal::Overflow.to_string()),
         (

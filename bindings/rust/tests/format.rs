@@ -1,15 +1,26 @@
-//! The sizes of `docs/FORMAT.md`, and its example, with the bytes that stand there.
+//! The sizes of `docs/FORMAT.md`, and its examples, with the bytes and the texts that stand there.
 
+use weighpick::filter::{
+    filter_project, filter_row, filter_strict_project, BRACKETS, COLUMN, COLUMNS, LEAVES, NAME,
+    TEXT,
+};
 use weighpick::sheet::{
     holds, project_into, ANSWER_LITERALS, CONTENT, LITERALS, RECORD, SHEET_BUFFER, VALUE_BUFFER,
 };
-use weighpick::{Leaf, Predicate};
+use weighpick::{Columns, Filter, Leaf, Predicate, Refusal, Transform, Type};
 
 const PAGE: &str = include_str!("../../../docs/FORMAT.md");
 
-/// The records of the page's example, in their order; bytes that are not shown are zero.
-fn records() -> Vec<[u8; RECORD]> {
-    let lines = PAGE.lines().filter_map(|line| {
+/// The lines of a section.
+fn section(heading: &str) -> impl Iterator<Item = &'static str> {
+    let heading = format!("## {heading}");
+    let lines = PAGE.lines().skip_while(move |line| *line != heading);
+    lines.skip(1).take_while(|line| !line.starts_with("## "))
+}
+
+/// The records of an example, in their order; bytes that are not shown are zero.
+fn records(heading: &str) -> Vec<[u8; RECORD]> {
+    let lines = section(heading).filter_map(|line| {
         let line = line.strip_prefix("    ")?;
         // What it is stands before two spaces, and the bytes are pairs of digits up to the words behind them.
         let bytes = line.split_once("  ")?.1.split_whitespace();
@@ -28,14 +39,29 @@ fn records() -> Vec<[u8; RECORD]> {
         .collect()
 }
 
+/// The block of texts that follows a line of the section on texts, which starts with these words.
+fn texts(before: &str) -> Vec<&'static str> {
+    let lines = section("The text of a filter").skip_while(|line| !line.starts_with(before));
+    let block = lines.skip(2).map_while(|line| line.strip_prefix("    "));
+    block.collect()
+}
+
+/// A size with a comma after its thousands.
+fn in_numerals(size: usize) -> String {
+    format!("{},{:03}", size / 1000, size % 1000)
+}
+
 /// The page has sizes in numerals, for readers; this holds them to the constants.
 #[test]
 fn the_sizes() {
-    let (thousands, rest) = (SHEET_BUFFER / 1000, SHEET_BUFFER % 1000);
+    let (buffer, text) = (in_numerals(SHEET_BUFFER), in_numerals(TEXT));
     let leaf = format!("| 1 to {} | up to {LITERALS} |", 1 + LITERALS);
     let answer = format!("| 1 to {} | up to {ANSWER_LITERALS} |", 1 + ANSWER_LITERALS);
     let sizes = [
-        format!("fewer than {thousands},{rest:03} bytes, or fewer than {VALUE_BUFFER} for a value"),
+        format!("fewer than {buffer} bytes, or fewer than {VALUE_BUFFER} for a value"),
+        format!(
+            "{text} bytes, or the filter more than {LEAVES} leaves or {BRACKETS} open brackets"
+        ),
         format!("records of {RECORD} bytes"),
         format!("| {} to {} | content", RECORD - CONTENT, RECORD - 1),
         format!("| to be projected {leaf}"),
@@ -44,15 +70,22 @@ fn the_sizes() {
         format!("| String | 0 to {CONTENT} |"),
         format!("| Binary | 0 to {CONTENT} |"),
         format!("with the count {} and writes", 2 * RECORD),
+        format!("A column list is 1 to {COLUMNS} entries of {COLUMN} bytes"),
+        format!("| 0 to {} | name: 1 to {NAME} of the letters", NAME - 1),
+        format!("| {NAME} to {} | a head", COLUMN - 1),
+        format!("String and Binary, has at most {CONTENT} bytes"),
+        format!("more than {text} bytes is 10"),
+        format!("more than {LEAVES} leaves, or at some place more than {BRACKETS} brackets open"),
     ];
+    let page = PAGE.split_whitespace().collect::<Vec<_>>().join(" ");
     for size in sizes {
-        assert!(PAGE.contains(&size), "{size}");
+        assert!(page.contains(&size), "{size}");
     }
 }
 
 #[test]
 fn the_example() {
-    let records = records();
+    let records = records("An example");
     let [head, literal, answer_head, answer_literal, inside, outside] = records.as_slice() else {
         panic!("six records, and not {}", records.len());
     };
@@ -66,4 +99,45 @@ fn the_example() {
     assert_eq!(predicate.to_string(), "int <= 290");
     assert_eq!(holds(&answer, inside), Ok(true));
     assert_eq!(holds(&answer, outside), Ok(false));
+}
+
+#[test]
+fn the_example_of_a_filter() {
+    let records = records("An example of a filter");
+    let [lot, lot_head, grams, grams_head, row_lot, row_grams, file_lot, file_grams] =
+        records.as_slice()
+    else {
+        panic!("eight records, and not {}", records.len());
+    };
+    let list = [&lot[..NAME], lot_head, &grams[..NAME], grams_head].concat();
+    let columns = Columns::from_bytes(&list).expect("a column list");
+    assert!(columns.iter().eq([
+        ("lot", Type::String, Transform::Truncate(4)),
+        ("grams", Type::Int, Transform::Truncate(10)),
+    ]));
+    let row = [*row_lot, *row_grams].concat();
+    let file = [*file_lot, *file_grams].concat();
+    let text = section("The text of a filter").find_map(|line| line.strip_prefix("    "));
+    let text = text.expect("a filter in a block").as_bytes();
+    assert_eq!(filter_row(&list, text, &row), Ok(true));
+    assert_eq!(filter_project(&list, text, &file), Ok(true));
+    assert_eq!(filter_strict_project(&list, text, &file), Ok(false));
+}
+
+#[test]
+fn the_texts() {
+    let columns = Columns::new([
+        ("a", Type::Int, Transform::Identity),
+        ("s", Type::String, Transform::Identity),
+    ]);
+    let columns = columns.expect("two columns");
+    let (filters, others) = (texts("These are filters"), texts("and these are 9"));
+    assert!(filters.len() > 3 && others.len() > 10);
+    for text in filters {
+        assert_eq!(Filter::new(&columns, text).check(), Ok(()), "{text}");
+    }
+    for text in others {
+        let refused = Err(Refusal::OutsideGrammar);
+        assert_eq!(Filter::new(&columns, text).check(), refused, "{text}");
+    }
 }

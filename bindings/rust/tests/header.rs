@@ -1,5 +1,6 @@
 //! The C header has the same numbers, and the same version.
 
+use weighpick::filter::{BRACKETS, COLUMN, COLUMNS, LEAVES, NAME, TEXT};
 use weighpick::sheet::{
     ANSWER_LITERALS, CONTENT, LARGEST_SHEET, LITERALS, RECORD, SHEET_BUFFER, VALUE_BUFFER,
 };
@@ -68,6 +69,12 @@ fn sizes() {
         ("LARGEST_SHEET", LARGEST_SHEET),
         ("SHEET_BUFFER", SHEET_BUFFER),
         ("VALUE_BUFFER", VALUE_BUFFER),
+        ("NAME", NAME),
+        ("COLUMN", COLUMN),
+        ("COLUMNS", COLUMNS),
+        ("TEXT", TEXT),
+        ("LEAVES", LEAVES),
+        ("BRACKETS", BRACKETS),
     ];
     for (name, size) in sizes {
         assert_eq!(in_header(name), Some(size), "{name}");

@@ -1,5 +1,6 @@
 //! Leaves that cannot be built, and the largest that can.
 
+use weighpick::filter::{BRACKETS, COLUMN, COLUMNS, LEAVES, NAME, TEXT};
 use weighpick::sheet::{
     Sheet, ANSWER_LITERALS, CONTENT, LARGEST_SHEET, LITERALS, RECORD, SHEET_BUFFER, VALUE_BUFFER,
 };
@@ -24,6 +25,13 @@ fn the_sizes_of_document_01() {
         (LARGEST_SHEET, SHEET_BUFFER, VALUE_BUFFER),
         (4160, 8256, 64)
     );
+}
+
+/// And as the paper on filters has them.
+#[test]
+fn the_sizes_of_document_02() {
+    assert_eq!((NAME, COLUMN, COLUMNS), (16, 16 + RECORD, 8));
+    assert_eq!((TEXT, LEAVES, BRACKETS), (4096, 32, 16));
 }
 
 #[test]

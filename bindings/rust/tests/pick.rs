@@ -3,7 +3,7 @@
 mod support;
 
 use support::sample::Random;
-use weighpick::{Error, Leaf, Literal, Pick, Refusal, Value};
+use weighpick::{Columns, Error, Filter, Leaf, Literal, Pick, Refusal, Transform, Type, Value};
 
 /// What a leaf in text does with the file of a partition value in text.
 fn pick(leaf: &str, partition_value: &str) -> Result<Pick, Error> {
@@ -91,5 +91,53 @@ fn a_picker_has_both_answers() {
                 .map(Option::as_ref)
                 .map_err(|r| *r)
         );
+    }
+}
+
+/// What a filter does with a file of a table that is split by the start of the lot and by steps of grams.
+fn pick_by_filter(text: &str, lot: &str, grams: i32) -> Result<Pick, Error> {
+    let columns = Columns::new([
+        ("lot", Type::String, Transform::Truncate(4)),
+        ("grams", Type::Int, Transform::Truncate(10)),
+    ])?;
+    let file = columns.partition(&[lot.into(), Literal::Int(grams).into()])?;
+    Ok(Filter::new(&columns, text).pick(&file))
+}
+
+#[test]
+fn skip_filter_and_whole_by_a_filter() {
+    let text = "lot startswith 'ab' and not (grams < 295 or grams = 500)";
+    for (lot, grams, expected) in [
+        ("ab12", 310, Pick::Whole),
+        ("ab12", 290, Pick::Filter),
+        ("ab12", 500, Pick::Filter),
+        ("ab12", 280, Pick::Skip),
+        ("ac12", 310, Pick::Skip),
+    ] {
+        assert_eq!(
+            pick_by_filter(text, lot, grams),
+            Ok(expected),
+            "{lot} {grams}"
+        );
+    }
+}
+
+#[test]
+fn after_a_refusal_of_a_filter() {
+    // Of the inclusive question alone: the strict one still says what is whole, and nothing is skipped.
+    let lowest = "grams < -2147483640 or lot = 'ab'";
+    assert_eq!(
+        pick_by_filter(lowest, "ab", -2_147_483_648),
+        Ok(Pick::Whole)
+    );
+    assert_eq!(pick_by_filter(lowest, "cd", 0), Ok(Pick::Filter));
+    // Of the strict one alone: the inclusive one still says what is skipped, and nothing is taken whole.
+    let highest = "grams <= 2147483647 and lot startswith 'ab'";
+    assert_eq!(pick_by_filter(highest, "cd", 0), Ok(Pick::Skip));
+    assert_eq!(pick_by_filter(highest, "ab", 0), Ok(Pick::Filter));
+    // Of both, by the leaves or by the text.
+    let both = format!("{lowest} or grams <= 2147483647");
+    for text in [both.as_str(), "price < 1", "?", &"(".repeat(5000)] {
+        assert_eq!(pick_by_filter(text, "cd", 0), Ok(Pick::Filter), "{text}");
     }
 }

@@ -1,46 +1,63 @@
-//! A leaf in words, and its two projections as the lines of program `weighpick`.
+//! What the examples have in common: types, transforms and literals as words, and what is done with wrong ones.
 
+// Each example is a program of its own and uses a part of this module.
+#![allow(dead_code)]
+
+use std::env;
+use std::ffi::OsString;
+use std::process::ExitCode;
 use std::str::FromStr;
 
-use weighpick::{
-    Leaf, Literal, ParseError, Predicate, PredicateOperator, Refusal, Transform, Type,
-};
+use weighpick::{Literal, ParseError, Transform, Type};
 
+pub mod filter;
+pub mod leaf;
 #[cfg(test)]
 mod tests;
 
 /// How an empty string or binary is printed, and an empty binary read.
 const EMPTY: &str = "-";
 
-/// Whether the words ask what may be asked: the first is `-h` or `--help`, which is no type.
-pub fn ask_for_help(words: &[impl AsRef<str>]) -> bool {
-    let first = words.first().map(AsRef::as_ref);
-    matches!(first, Some("-h" | "--help"))
+/// The exit status after wrong words.
+const WRONG_WORDS: u8 = 2;
+
+/// Prints what is answered to the words that the program was given, how it is used if they ask for it, or what is wrong with them.
+pub fn run(usage: &str, answer: impl FnOnce(&[String]) -> Result<String, String>) -> ExitCode {
+    let given: Result<Vec<String>, OsString> =
+        env::args_os().skip(1).map(OsString::into_string).collect();
+    if given.as_ref().is_ok_and(|given| ask_for_help(given)) {
+        println!("{usage}");
+        return ExitCode::SUCCESS;
+    }
+    let lines = given
+        .map_err(|_| "a word is not UTF-8".to_string())
+        .and_then(|given| answer(&given));
+    match lines {
+        Ok(lines) => {
+            print!("{lines}");
+            ExitCode::SUCCESS
+        }
+        Err(wrong) => {
+            eprintln!("{wrong}\n{usage}");
+            ExitCode::from(WRONG_WORDS)
+        }
+    }
 }
 
-/// The leaf that the words say, or what is wrong with them.
-pub fn leaf(words: &[impl AsRef<str>]) -> Result<Leaf, String> {
-    let mut words = words.iter().map(AsRef::as_ref);
-    let column_type = take(&mut words, "type")?;
-    let column_type: Type = column_type
-        .parse()
-        .map_err(|wrong: ParseError| wrong.to_string())?;
-    let transform = transform(&mut words)?;
-    let operator = operator(take(&mut words, "operator")?)?;
-    let literals: Result<Vec<Literal>, String> =
-        words.map(|word| literal(column_type, word)).collect();
-    let leaf = match literals?.as_slice() {
-        [] if operator.is_unary() => Leaf::unary(operator, column_type, transform),
-        [one] if operator.is_binary() => Leaf::binary(operator, transform, one),
-        set if operator.is_set() => Leaf::set(operator, column_type, transform, set),
-        other => return Err(format!("{operator} does not take {} literals", other.len())),
-    };
-    leaf.map_err(|e| e.to_string())
+/// Whether the words ask what may be asked: the first is `-h` or `--help`, which is no type and no filter.
+fn ask_for_help(words: &[impl AsRef<str>]) -> bool {
+    let first = words.first().map(AsRef::as_ref);
+    matches!(first, Some("-h" | "--help"))
 }
 
 /// The next word.
 fn take<'a>(words: &mut impl Iterator<Item = &'a str>, what: &str) -> Result<&'a str, String> {
     words.next().ok_or_else(|| format!("the {what} is missing"))
+}
+
+/// A type by its name.
+fn column_type(word: &str) -> Result<Type, String> {
+    word.parse().map_err(|wrong: ParseError| wrong.to_string())
 }
 
 /// A transform by its name; Truncate's width is a word of its own.
@@ -55,27 +72,6 @@ fn transform<'a>(words: &mut impl Iterator<Item = &'a str>) -> Result<Transform,
         "void" => Transform::Void,
         "unknown" => Transform::Unknown,
         word => return Err(format!("`{word}` is no transform")),
-    })
-}
-
-/// An operator by its name or sign.
-fn operator(word: &str) -> Result<PredicateOperator, String> {
-    Ok(match word {
-        "is-null" => PredicateOperator::IsNull,
-        "not-null" => PredicateOperator::NotNull,
-        "is-nan" => PredicateOperator::IsNan,
-        "not-nan" => PredicateOperator::NotNan,
-        "<" => PredicateOperator::LessThan,
-        "<=" => PredicateOperator::LessThanOrEq,
-        ">" => PredicateOperator::GreaterThan,
-        ">=" => PredicateOperator::GreaterThanOrEq,
-        "=" => PredicateOperator::Eq,
-        "!=" => PredicateOperator::NotEq,
-        "starts-with" => PredicateOperator::StartsWith,
-        "not-starts-with" => PredicateOperator::NotStartsWith,
-        "in" => PredicateOperator::In,
-        "not-in" => PredicateOperator::NotIn,
-        _ => return Err(format!("`{word}` is no operator")),
     })
 }
 
@@ -115,29 +111,6 @@ fn bytes(word: &str) -> Result<Vec<u8>, String> {
         .chunks_exact(2)
         .map(|pair| (16 * pair[0] + pair[1]) as u8)
         .collect())
-}
-
-/// Both lines, each with its newline.
-pub fn lines(leaf: &Leaf) -> String {
-    let inclusive = line("inclusive", leaf.project());
-    let strict = line("strict", leaf.strict_project());
-    format!("{inclusive}\n{strict}\n")
-}
-
-/// The question, the answer's number and, after 0, the predicate.
-fn line(question: &str, answer: Result<Option<Predicate>, Refusal>) -> String {
-    match answer {
-        Ok(Some(predicate)) => {
-            let mut line = format!("{question} 0 {}", predicate.operator().number());
-            for literal in predicate.literals() {
-                line.push(' ');
-                line.push_str(&text(&literal));
-            }
-            line
-        }
-        Ok(None) => format!("{question} 1"),
-        Err(refusal) => format!("{question} {}", refusal.number()),
-    }
 }
 
 /// A number in decimal, a string or binary in hexadecimal.

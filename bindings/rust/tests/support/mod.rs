@@ -1,8 +1,9 @@
-//! What several tests use: a generator of leaves and rows that gives the same ones every time, and when a row meets a leaf.
+//! What several tests use: a generator of leaves, filters and rows that gives the same ones every time, and when a row meets a leaf.
 
 // Each test is a program of its own and uses a part of this module.
 #![allow(dead_code)]
 
+pub mod filters;
 pub mod meets;
 pub mod sample;
 

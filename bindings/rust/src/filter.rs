@@ -1,0 +1,8 @@
+//! Column lists and values, the bytes behind filters, and the three routines over them.
+//!
+//! For callers that get the bytes from elsewhere; [`Filter`](crate::Filter) asks the same of typed values. `docs/FORMAT.md` in the
+//! repository says what each byte of a list and of a value is, and what a text has to be.
+
+pub use crate::columns::{COLUMN, COLUMNS, NAME};
+pub use crate::filters::{BRACKETS, LEAVES, TEXT};
+pub use crate::routines::{filter_project, filter_row, filter_strict_project};

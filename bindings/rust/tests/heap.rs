@@ -1,0 +1,70 @@
+//! Filters are asked without memory from the heap, and rows and partition values of numbers are built without.
+
+use std::alloc::{GlobalAlloc, Layout, System};
+use std::cell::Cell;
+
+use weighpick::{Columns, Error, Filter, Literal, Transform, Type, Value};
+
+thread_local! {
+    /// How often this thread has asked for memory.
+    static ASKED: Cell<usize> = const { Cell::new(0) };
+}
+
+/// The system's heap, with a count.
+struct Counting;
+
+// SAFETY: every call is handed on to the system as it is.
+unsafe impl GlobalAlloc for Counting {
+    unsafe fn alloc(&self, layout: Layout) -> *mut u8 {
+        ASKED.with(|asked| asked.set(asked.get() + 1));
+        // SAFETY: what this function asks of its caller.
+        unsafe { System.alloc(layout) }
+    }
+
+    unsafe fn dealloc(&self, memory: *mut u8, layout: Layout) {
+        // SAFETY: as above.
+        unsafe { System.dealloc(memory, layout) }
+    }
+}
+
+#[global_allocator]
+static HEAP: Counting = Counting;
+
+/// How often memory was asked for in `run`.
+fn asked<T>(run: impl FnOnce() -> T) -> (usize, T) {
+    let before = ASKED.with(Cell::get);
+    let result = run();
+    (ASKED.with(Cell::get) - before, result)
+}
+
+#[test]
+fn no_memory_is_asked_for() -> Result<(), Error> {
+    let column = |name| (name, Type::Int, Transform::Truncate(10));
+    let (counted, columns) = asked(|| Columns::new(["a", "b"].map(column)));
+    assert_ne!(
+        counted, 0,
+        "a list is kept on the heap, so that the count counts"
+    );
+    let columns = columns?;
+    let values: [Value; 2] = [Literal::Int(10).into(), Value::Missing];
+    for text in [
+        "a < 15 and not (b > 1 or a = 3)",
+        "a < -2147483640",
+        "a <",
+        "c < 1",
+    ] {
+        let (counted, answers) = asked(|| {
+            let filter = Filter::new(&columns, text);
+            let (row, file) = (columns.row(&values)?, columns.partition(&values)?);
+            let answers = [
+                filter.row(&row),
+                filter.project(&file),
+                filter.strict_project(&file),
+            ];
+            Ok::<_, Error>((answers, filter.check(), filter.pick(&file)))
+        });
+        assert_eq!(counted, 0, "{text}: {answers:?}");
+        assert!(answers.is_ok());
+    }
+    Ok(())
+}
