@@ -16,7 +16,7 @@
 #define WEIGHPICK_H
 
 /* The version; bindings/rust/Cargo.toml has the same, and CHANGELOG.md says what it has. */
-#define WEIGHPICK_VERSION "0.2.0"
+#define WEIGHPICK_VERSION "0.3.0"
 
 #include <stddef.h>
 #include <stdint.h>
