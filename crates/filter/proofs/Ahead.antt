@@ -1,11 +1,13 @@
 -- What the symbol after a filter tells: whether a word goes on with it, a bracket closes, or the text ends. Assumes nothing.
 use Prim.Native.Nat.{ℕ, _≤_, _<_}
 use mathlib.Core.Bool.{Bool, true, false}
-use mathlib.Core.List.{List, [], _∷_}
+use mathlib.Core.List.{List, [], _∷_, map}
 use mathlib.Core.Path.{_≡_, refl, sym, ap, subst, _∙_}
 use lib.Dec.{eqb}
 use lib.ListN.{length, drop}
+use types.Run.{OneOf}
 use Rattle.values.specs.laws.TestLaws.{clash}
+use Rattle.values.proofs.Arms.{position, but, agree}
 use Rattle.meets.specs.declared.held.Held.{Held}
 use Rattle.columns.specs.Columns.{Column}
 use Rattle.grammar.specs.Grammar.{Symbol, leafOf, andWord, orWord, notWord, opening, closing, unreadable}
@@ -16,7 +18,7 @@ use Rattle.leaves.specs.Symbols.{symbols}
 use Rattle.leaves.specs.code.SymbolAnswers.{Begins, isSymbol}
 use Rattle.leaves.specs.declared.symbol.SymbolKind.{SymbolKind}
 use Rattle.leaves.specs.declared.symbol.SymbolKind.the-variants as kind
-use Rattle.leaves.specs.declared.symbol.Symbol as declared-symbol
+use Rattle.leaves.proofs.symbol.SymbolKind.{enum}
 use Rattle.filter.specs.code.FilterReads.{noFilter, Seen, FilterTo, Looks}
 use Rattle.filter.specs.declared.read.Read.{Read}
 use Rattle.filter.specs.laws.BracketReadLaws.{isClosing}
@@ -37,6 +39,22 @@ number kind.Unreadable = 7
 
 abbrev pub isKind : SymbolKind → SymbolKind → Bool
 isKind k other = eqb (number k) (number other)
+
+-- what the arm for any other kind is told
+abbrev Other : List SymbolKind → SymbolKind → Type 0
+Other ks k = OneOf (map (position enum) (but enum tt ks)) (position enum k)
+
+pub not-and : (k : SymbolKind) → Other (kind.And ∷ []) k → isKind kind.And k ≡ false
+not-and k m = agree enum tt (isKind kind.And) (λ other. false) (but enum tt (kind.And ∷ [])) k m refl
+
+pub not-or : (k : SymbolKind) → Other (kind.Or ∷ []) k → isKind kind.Or k ≡ false
+not-or k m = agree enum tt (isKind kind.Or) (λ other. false) (but enum tt (kind.Or ∷ [])) k m refl
+
+pub not-closing : (k : SymbolKind) → Other (kind.Closing ∷ []) k → isKind kind.Closing k ≡ false
+not-closing k m = agree enum tt (isKind kind.Closing) (λ other. false) (but enum tt (kind.Closing ∷ [])) k m refl
+
+pub not-end : (k : SymbolKind) → Other (kind.End ∷ []) k → isKind kind.End k ≡ false
+not-end k m = agree enum tt (isKind kind.End) (λ other. false) (but enum tt (kind.End ∷ [])) k m refl
 
 -- ---- the kind of the first of some symbols
 
@@ -104,6 +122,9 @@ opensFilter kind.Opening = true
 opensFilter kind.Closing = false
 opensFilter kind.Unreadable = false
 
+pub no-filter-kind : (k : SymbolKind) → Other (kind.Not ∷ kind.Leaf ∷ kind.Opening ∷ []) k → opensFilter k ≡ false
+no-filter-kind k m = agree enum tt opensFilter (λ other. false) (but enum tt (kind.Not ∷ kind.Leaf ∷ kind.Opening ∷ [])) k m refl
+
 begins-filter : (ts : List (Symbol Leaf)) → beginsFilter ts ≡ opensFilter (kindOf ts)
 begins-filter [] = refl
 begins-filter (leafOf l ∷ ts) = refl
@@ -168,7 +189,8 @@ module _ {cs : List Column} {s : List ℕ} {next : ℕ} {ahead : SymbolKind} {pa
   seen-closing e = rw (h .to) (seen-opens kind.Closing e)
 
 -- ---- what a filter that was made looks like
-pub filter-looks : {cs : List Column} {s : List ℕ} {next count : ℕ} {deep : Bool} {answer : Held} {r : Read} → FilterTo cs s next count deep answer r → Looks cs s r
+pub filter-looks : {cs : List Column} {s : List ℕ} {next count : ℕ} {deep : Bool} {answer : Held} {r : Read}
+    → FilterTo cs s next count deep answer r → Looks cs s r
 filter-looks {cs} {s} {r = r} h = record {
   one = λ e. subst (λ k. Seen cs s k (r .ahead) (r .past)) (sym (ap (λ x. x .next) (h .is))) (h .seen);
   none = λ e. clash (ap (λ x. x .found) (h .is)) e;

@@ -13,7 +13,7 @@ use Rattle.columns.specs.laws.CellLaws.{CellsRead, cells-read}
 use Rattle.columns.specs.laws.ColumnLaws.{columns-broken}
 use Rattle.ask.specs.declared.asked.Asked.{Asked}
 use Rattle.filter.specs.code.Asking.{sideFor, cellsIn, textAnswered, filterAnswered}
-use Rattle.filter.specs.code.FilterReads.{ValuesRead, Ready}
+use Rattle.filter.specs.code.FilterReads.{Ready}
 
 module _ (a : Asked) (c t v : List ℕ) where
   pub list-broken : length (columnsIn c) ≡ 0 → filterAnswered a c t v ≡ err Malformed

@@ -4,12 +4,11 @@ use native.Mathlib.Omega.{arith}
 use mathlib.Core.Bool.{Bool, true, false, not}
 use mathlib.Core.List.{List, _∷_}
 use mathlib.Core.Path.{_≡_, refl, sym, ap, subst, _∙_}
-use lib.ListN.{length, drop}
+use lib.ListN.{length}
 use Rattle.meets.specs.declared.held.Held.{Held}
 use Rattle.columns.specs.code.ColumnAnswers.{columnsIn}
 use Rattle.grammar.specs.Grammar.{opening}
 use Rattle.grammar.specs.Parser.{single, disjunction}
-use Rattle.leaves.specs.Symbols.{symbols}
 use Rattle.leaves.specs.code.SymbolAnswers.{isSymbol, Symbolises}
 use Rattle.leaves.specs.declared.symbol.Symbol as declared-symbol
 use Rattle.leaves.specs.declared.symbol.SymbolKind.{SymbolKind}
@@ -23,7 +22,8 @@ use Rattle.filter.specs.declared.read.Read.{Read}
 use Rattle.filter.specs.declared.skim.Skimmed as declared-skim
 use Rattle.filter.specs.laws.BracketReadLaws.{inner-none, unclosed, bracket-read, skim-none, skim-one}
 use Rattle.filter.specs.laws.SingleReadLaws.{other-read, leaf-read, not-read}
-use Rattle.filter.proofs.Ahead.{isKind, opensFilter, filter-seen, closing-seen, seen-forward, seen-within, seen-opens, seen-closing, filter-looks, symbol-found, none-looks}
+use Rattle.filter.proofs.Ahead.{isKind, opensFilter, filter-seen, closing-seen, seen-forward, seen-within, seen-opens, seen-closing}
+use Rattle.filter.proofs.Ahead.{filter-looks, symbol-found, none-looks}
 
 module _ (a : Asked) (c v s : List ℕ) where
   abbrev FindsSingle : ℕ → Bool → ℕ → Read → Type 0
@@ -51,7 +51,9 @@ module _ {a : Asked} {c v s : List ℕ} where
 
     pub one-not : x .kind ≡ kind.Not → Nots a c v s at negate opened (x .next) (not turned)
     one-not e = record {
-      back = λ r f. h .back r (not-read (after a c v s) (length s) (ask a c v s) here turned opened (x .next) (symbol-onward kind.Not e refl) (seen-opens here-seen kind.Not e) r f);
+      back = λ r f.
+          let goes = seen-opens here-seen kind.Not e in
+          h .back r (not-read (after a c v s) (length s) (ask a c v s) here turned opened (x .next) (symbol-onward kind.Not e refl) goes r f);
       onward = omega (arith, h .onward, symbol-onward kind.Not e refl);
       within = y .within;
     }

@@ -8,7 +8,6 @@ use columns::list::count_columns;
 use leaves::symbol::SymbolKind;
 use meets::held::Held;
 use values::error::ErrorKind;
-ghost use mathlib.Core.List.{map};
 ghost use mathlib.Core.Path.{_≡_};
 ghost use Rattle.meets.specs.Tested.{heldAs};
 ghost use Rattle.projection.specs.declared.question.Question.the-variants as question;

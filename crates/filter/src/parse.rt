@@ -15,7 +15,7 @@ ghost use Rattle.filter.specs.code.FilterReads.{Ready, Reads, ReadsBrack
 // The most brackets that may be open at one place.
 pub const BRACKET_LIMIT: usize = 16;
 
-// A filter from a place on, under an odd number of nots where `negate`, and within so many open brackets: under it, or becomes and.
+// A filter from `at` on. Under an odd number of nots (`negate`) or becomes and, and and becomes or; `opened` brackets are open around it.
 pub fn parse_or(
     asked: Asked,
     c: &[u8],
@@ -70,7 +70,7 @@ fn parse_and(
     }
 }
 
-// The nots in a loop: a text may have a thousand, and each would take its share of the stack.
+// The nots are a loop: a text may have a thousand, and each would take its share of the stack.
 fn parse_not(
     asked: Asked,
     c: &[u8],
@@ -108,7 +108,7 @@ fn parse_not(
     }
 }
 
-// A bracket, from the text after `(` on. What is in too deep a one is passed over: nothing in it is answered.
+// What is in a bracket, from the text after `(` on. Where too many are open it is passed over: nothing in it is answered.
 fn parse_bracket(
     asked: Asked,
     c: &[u8],

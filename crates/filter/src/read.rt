@@ -3,7 +3,6 @@ use crate::join::join_answers;
 use leaves::symbol::SymbolKind;
 use leaves::symbol::symbol_at;
 use meets::held::Held;
-ghost use mathlib.Core.Bool.{true};
 ghost use mathlib.Core.Path.{_≡_};
 ghost use Prim.Native.Nat.{_+_, _≤_, _<_};
 ghost use lib.ListN.{length};

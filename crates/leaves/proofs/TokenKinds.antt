@@ -11,10 +11,7 @@ use Rattle.values.specs.declared.datatypes.PrimitiveType.the-variants as type
 use Rattle.expr.specs.Operators.{Binary}
 use Rattle.tokens.specs.declared.token.TokenKind.{TokenKind}
 use Rattle.tokens.specs.declared.token.TokenKind.the-variants.{End, Word, Sign, Decimal, TooLarge, Quoted, Opening, Closing, Unreadable}
-use Rattle.grammar.specs.Grammar as grammar
 use Rattle.leaves.specs.Fitting.{fitsLength}
-use Rattle.leaves.specs.declared.symbol.Symbol as declared
-use Rattle.leaves.specs.declared.symbol.SymbolKind.the-variants as kind
 
 -- ---- texts of a column
 pub length-fits : (column : PrimitiveType) (n : ℕ) → fitsLength (layout column) n ≡ true → (layout column ≡ bytes contentSize) × (n ≤ contentSize)

@@ -8,7 +8,6 @@ use borrow.Author.Tests.{le-leb}
 use Rattle.values.specs.Outcomes.{Row}
 use Rattle.values.specs.Types.{contentSize}
 use Rattle.values.specs.Words.{field}
-use Rattle.expr.specs.Operators as operators
 use Rattle.expr.specs.Operators.{Binary, one, byArity, oppositeBinary}
 use Rattle.values.specs.laws.TestLaws.{clash}
 use Rattle.expr.specs.code.OperatorAnswers.{negated, takesOne}

@@ -88,7 +88,8 @@ module _ (after : ℕ → List (Symbol Leaf)) (size : ℕ) (ask : Leaf → Res B
           q : Read
           q = filterTo end (r .leaves) (r .deep) (r .answer) ahead to
 
-          told : (f : Filter Leaf) → Tells after size ask negate (opened + 1) (r .deep) (r .leaves) (r .answer) f → Told after size ask negate opened q (bracket f) (after end)
+          told : (f : Filter Leaf) → Tells after size ask negate (opened + 1) (r .deep) (r .leaves) (r .answer) f
+              → Told after size ask negate opened q (bracket f) (after end)
           told f t = record {
             there = refl;
             left = refl;

@@ -10,7 +10,7 @@ use Rattle.values.specs.Outcomes.{Res}
 use Rattle.values.specs.laws.TestLaws.{clash}
 use Rattle.meets.specs.Tested.{heldAs}
 use Rattle.meets.specs.declared.held.Held.{Held}
-use Rattle.grammar.specs.Filters.{Filter, leaf, opposite, leaves, answered}
+use Rattle.grammar.specs.Filters.{Filter, leaf, opposite, answered}
 use Rattle.grammar.specs.Grammar.{Symbol, leafOf, andWord, orWord, notWord, opening, closing, unreadable}
 use Rattle.grammar.specs.Parser.{Found, found, nothing, _>>=_, singleWith, single, disjunction}
 use Rattle.grammar.specs.laws.FilterLaws.{read-leaf, read-opposite}

@@ -1,12 +1,6 @@
 -- `filter::answer_text` meets its contract. Assumes nothing.
-use mathlib.Core.Bool.{false}
-use mathlib.Core.List.{[], _∷_}
-use mathlib.Core.Path.{refl}
 use borrow.Author.Needs.{needs}
-use Rattle.values.proofs.Arms.{but, agree}
-use Rattle.leaves.proofs.symbol.SymbolKind.{enum}
-use Rattle.leaves.specs.declared.symbol.SymbolKind.the-variants as kind
-use Rattle.filter.proofs.Ahead.{isKind}
+use Rattle.filter.proofs.Ahead.{not-end}
 use Rattle.filter.proofs.Texts.{too-long, outside, too-deep, too-many, all-answered}
 use Rattle.filter.proofs.filter.answer_text.Statement.{statement}
 use Rattle.filter.proofs.filter.answer_text.Tie as tie
@@ -17,8 +11,7 @@ returns c = rw (too-long _ _ _ _ (c .if1 .taken))
 returns-2 : tie.Need-returns-2
 returns-2 c =
     let k = c .before in
-    let other = agree enum tt (isKind kind.End) (λ x. false) (but enum tt (kind.End ∷ [])) (k .parse-or .result .ahead) (c .match .keys2) refl in
-    rw (outside _ _ _ _ (k .before .if1 .left) (k .parse-or .ensures) other)
+    rw (outside _ _ _ _ (k .before .if1 .left) (k .parse-or .ensures) (not-end (k .parse-or .result .ahead) (c .match .keys2)))
 
 returns-3 : tie.Need-returns-3
 returns-3 c =

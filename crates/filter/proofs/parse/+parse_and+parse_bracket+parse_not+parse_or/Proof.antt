@@ -1,8 +1,6 @@
 -- The routines for or, and, not and brackets meet their contracts. The measure is the bytes left, and which routine it is. Assumes nothing.
 use Prim.Native.Nat.{ℕ, _+_, _-_, _*_, _<_}
 use native.Mathlib.Omega.{arith}
-use mathlib.Core.Bool.{false, not}
-use mathlib.Core.List.{[], _∷_}
 use mathlib.Core.Path.{refl}
 use lib.ListN.{length}
 use denote.Ref.{now}
@@ -10,12 +8,11 @@ use borrow.Author.Needs.{needs}
 use borrow.Author.Tests.{not-true, not-false}
 use borrow.Fn.Kinds.{In}
 use borrow.Fn.PlainCycle.{Measures, is, falls, and}
-use Rattle.values.proofs.Arms.{but, agree}
 use Rattle.grammar.specs.Parser.{conjunction, disjunction}
 use Rattle.leaves.specs.declared.symbol.SymbolKind.the-variants as kind
-use Rattle.leaves.proofs.symbol.SymbolKind.{enum}
-use Rattle.filter.proofs.Ahead.{isKind, opensFilter}
-use Rattle.filter.proofs.Loops.{ready-at, ready-within, and-word, or-word, Chaining, first-read, last-read, past-within, past-onward, right-missed, few-leaves, falls as chain-falls, next-read}
+use Rattle.filter.proofs.Ahead.{not-and, not-or, not-closing, no-filter-kind}
+use Rattle.filter.proofs.Loops.{ready-at, ready-within, and-word, or-word, Chaining, first-read, last-read, past-within, past-onward}
+use Rattle.filter.proofs.Loops.{right-missed, few-leaves, falls as chain-falls, next-read}
 use Rattle.filter.proofs.Singles.{Nots, no-nots, symbol-onward, one-not, a-leaf, leaf-there, bracket-there, nothing-there}
 use Rattle.filter.proofs.Singles.{deep-missed, deep-passed, bracket-missed, closed-within, bracket-closed}
 use Rattle.filter.proofs.parse.parse_and.Reads as parse-and
@@ -106,7 +103,7 @@ unfolding conjunction disjunction
     (λ c κs. let b = c .before .before .before in (omega (arith, b .pre .0), b .pre .1))
     (λ c. first-read (and-word _ _ _ _ _) _ (c .parse-not .ensures))
     (search needs)
-    (λ c. last-read (and-word _ _ _ _ _) _ (c .before .loop .inv) (agree enum tt (isKind kind.And) (λ k. false) (but enum tt (kind.And ∷ [])) (c .before .loop .left .ahead) (c .match .keys2) refl))
+    (λ c. last-read (and-word _ _ _ _ _) _ (c .before .loop .inv) (not-and (c .before .loop .left .ahead) (c .match .keys2)))
     (λ c κs. let l = c .before .before in let b = l .before .before .before .before .before in let e = c .enum-told .given .1 in
     let on = past-onward (and-word _ _ _ _ _) _ (l .loop .inv) e in let in-text = past-within (and-word _ _ _ _ _) _ (l .loop .inv) e in
     (omega (arith, b .pre .0), ready-at (b .pre .1) _ in-text))
@@ -115,7 +112,8 @@ unfolding conjunction disjunction
     (λ c κs. let k = c .before .before in let l = k .before .before .before in let b = l .before .before .before .before .before in
     let few = few-leaves (and-word _ _ _ _ _) _ (l .loop .inv) (k .before .enum-told .given .1) (k .parse-not2 .ensures) (not-false _ (c .if1 .left)) in omega arith)
     (λ c. let e = c .before in let k = e .before .before in let l = k .before .before .before in
-    rw (c .join-reads .ensures) (chain-falls (and-word _ _ _ _ _) _ (l .loop .inv) (k .before .enum-told .given .1) (k .parse-not2 .ensures) (not-false _ (e .if1 .left))))
+    rw (c .join-reads .ensures)
+    (chain-falls (and-word _ _ _ _ _) _ (l .loop .inv) (k .before .enum-told .given .1) (k .parse-not2 .ensures) (not-false _ (e .if1 .left))))
     (λ c. let e = c .before in let k = e .before .before in let l = k .before .before .before in
     rw (c .join-reads .ensures) (next-read (and-word _ _ _ _ _) _ (l .loop .inv) (k .before .enum-told .given .1) (k .parse-not2 .ensures) (not-false _ (e .if1 .left)))))
     (λ t. parse-bracket-lts.spec
@@ -124,7 +122,8 @@ unfolding conjunction disjunction
     (λ c κs. let b = c .before .before .before .before in (b .pre .1 .counted, b .pre .1 .within))
     (λ c κs. search needs)
     (λ c. let e = c .before in let k = e .before .before in rw (c .no-filter .ensures) (deep-missed _ (k .skim .ensures) (not-true _ (e .if2 .taken))))
-    (λ c κs. let k = c .before .before in let b = k .before .before .before .before .before in (b .pre .1 .counted, k .skim .ensures .within (not-false _ (c .if2 .left))))
+    (λ c κs. let k = c .before .before in let b = k .before .before .before .before .before in
+    (b .pre .1 .counted, k .skim .ensures .within (not-false _ (c .if2 .left))))
     (λ c. let e = c .before in let k = e .before .before in
     deep-passed _ (k .skim .ensures) (not-false _ (e .if2 .left)) (omega (arith, k .before .if1 .taken)) (c .filter-to .ensures))
     (λ c. let few = c .before .before .before .before .pre .1 .few in omega arith)
@@ -133,8 +132,7 @@ unfolding conjunction disjunction
     (search needs)
     (λ c κs. search needs)
     (λ c. let m = c .before in
-    rw (c .no-filter2 .ensures)
-    (bracket-missed _ (m .before .parse-or .ensures) (agree enum tt (isKind kind.Closing) (λ k. false) (but enum tt (kind.Closing ∷ [])) (m .before .parse-or .result .ahead) (m .match .keys2) refl)))
+    rw (c .no-filter2 .ensures) (bracket-missed _ (m .before .parse-or .ensures) (not-closing (m .before .parse-or .result .ahead) (m .match .keys2))))
     (λ c κs. let k = c .before .before in let b = k .before .before .before .before .before in
     (b .pre .1 .counted, closed-within _ (k .parse-or .ensures) (c .enum-told .given .1)))
     (λ c. let n = c .before in bracket-closed _ (n .before .before .parse-or .ensures) (n .enum-told .given .1) (c .filter-to2 .ensures)))
@@ -173,14 +171,13 @@ unfolding conjunction disjunction
     (λ c κs. search needs)
     (λ c. let m = c .before in let y = m .before in
     rw (c .no-filter .ensures)
-    (nothing-there (y .before .loop .inv) (y .symbol-at .ensures)
-    (agree enum tt opensFilter (λ k. false) (but enum tt (kind.Not ∷ kind.Leaf ∷ kind.Opening ∷ [])) (y .symbol-at .result .kind) (m .match .keys4) refl))))
+    (nothing-there (y .before .loop .inv) (y .symbol-at .ensures) (no-filter-kind (y .symbol-at .result .kind) (m .match .keys4)))))
     λ t. parse-or-lts.spec (parse-and-below t, parse-and.Post, join-reads-reads.Asked, join-reads-reads.Learnt)
     (parse-or-at t) parse-or.Post parse-or-Inv-loop parse-or-μ-loop
     (λ c κs. let b = c .before .before .before in (omega (arith, b .pre .0), b .pre .1))
     (λ c. first-read (or-word _ _ _ _ _) _ (c .parse-and .ensures))
     (search needs)
-    (λ c. last-read (or-word _ _ _ _ _) _ (c .before .loop .inv) (agree enum tt (isKind kind.Or) (λ k. false) (but enum tt (kind.Or ∷ [])) (c .before .loop .left .ahead) (c .match .keys2) refl))
+    (λ c. last-read (or-word _ _ _ _ _) _ (c .before .loop .inv) (not-or (c .before .loop .left .ahead) (c .match .keys2)))
     (λ c κs. let l = c .before .before in let b = l .before .before .before .before .before in let e = c .enum-told .given .1 in
     let on = past-onward (or-word _ _ _ _ _) _ (l .loop .inv) e in let in-text = past-within (or-word _ _ _ _ _) _ (l .loop .inv) e in
     (omega (arith, b .pre .0), ready-at (b .pre .1) _ in-text))
@@ -189,6 +186,7 @@ unfolding conjunction disjunction
     (λ c κs. let k = c .before .before in let l = k .before .before .before in let b = l .before .before .before .before .before in
     let few = few-leaves (or-word _ _ _ _ _) _ (l .loop .inv) (k .before .enum-told .given .1) (k .parse-and2 .ensures) (not-false _ (c .if1 .left)) in omega arith)
     (λ c. let e = c .before in let k = e .before .before in let l = k .before .before .before in
-    rw (c .join-reads .ensures) (chain-falls (or-word _ _ _ _ _) _ (l .loop .inv) (k .before .enum-told .given .1) (k .parse-and2 .ensures) (not-false _ (e .if1 .left))))
+    rw (c .join-reads .ensures)
+    (chain-falls (or-word _ _ _ _ _) _ (l .loop .inv) (k .before .enum-told .given .1) (k .parse-and2 .ensures) (not-false _ (e .if1 .left))))
     (λ c. let e = c .before in let k = e .before .before in let l = k .before .before .before in
     rw (c .join-reads .ensures) (next-read (or-word _ _ _ _ _) _ (l .loop .inv) (k .before .enum-told .given .1) (k .parse-and2 .ensures) (not-false _ (e .if1 .left))))
