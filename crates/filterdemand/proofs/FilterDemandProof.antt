@@ -24,7 +24,8 @@ use Rattle.columns.specs.Columns.{Column, nameSize, entrySize, entryAt}
 use Rattle.grammar.specs.Filters.{Filter, leaf, either, both, opposite, bracket, straight, answered}
 use Rattle.leaves.specs.Fitting.{Leaf}
 use Rattle.ask.specs.LeafAnswers.{predicateIn, rowAnswer, partAnswer}
-use Rattle.filter.specs.FilterDemand.{headAt, placesIn, Rows, Kept, FilterLosesNoRow, FilterStrictIsSafe, sheetIn, byReturned, OneLeafRow, OneLeafParts, FiltersLoseNothing}
+use Rattle.filter.specs.FilterDemand.{headAt, placesIn, Rows, Kept, FilterLosesNoRow, FilterStrictIsSafe, sheetIn, byReturned}
+use Rattle.filter.specs.FilterDemand.{OneLeafRow, OneLeafParts, FiltersLoseNothing}
 use Rattle.filter.specs.FilterRoutines.{filterIn, turn, filterRow, filterParts}
 use Rattle.demand.proofs.ReadBackLaws.{sheetOf}
 use Rattle.filterdemand.proofs.CellLaws.{column-head, CellAt, cells-columns, cell-at}

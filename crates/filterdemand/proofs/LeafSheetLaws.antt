@@ -138,7 +138,7 @@ module _ (type transform width : ℕ) (h : Head) (e : head type transform width 
     literal-size : length (literalRecord 0 bs) ≡ recordSize
     literal-size = length-literal 0 bs (fits-room (h .column) (length bs) fit)
 
-    size : length s ≡ 128
+    size : length s ≡ recordSize * 2
     size = omega (arith, length-append (literalRecord 0 bs) [], literal-size)
 
     second : recordAt s 1 ≡ literalRecord 0 bs
