@@ -9,15 +9,18 @@ ghost use lib.ListN.{length};
 ghost use Rattle.columns.specs.code.ColumnAnswers.{columnsIn};
 ghost use Rattle.filter.specs.code.FilterReads.{noFilter, joinRead, FilterTo};
 
+// The fields of a word come first: the others then lie side by side, and are handed through memory in one piece.
 pub struct Read {
-    // Whether there is a filter; nothing else counts where there is none.
-    pub found: bool,
-    // Where the text after it begins, of which kind the symbol there is, and where the text after that begins: so no symbol is read twice.
+    // Where the text after the filter begins, and where the text after the symbol there begins.
     pub next: usize,
-    pub ahead: SymbolKind,
     pub past: usize,
-    // How many leaves it has, whether too many of its brackets are open at one place, and what it is answered.
+    // How many leaves it has.
     pub leaves: usize,
+    // Of which kind the symbol after it is, so that no symbol is read twice.
+    pub ahead: SymbolKind,
+    // Whether there is a filter; where there is none, no other field counts but `ahead`.
+    pub found: bool,
+    // Whether too many of its brackets are open at one place.
     pub deep: bool,
     pub answer: Held,
 }

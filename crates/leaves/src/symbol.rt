@@ -105,22 +105,20 @@ fn operator_at(c: &[u8], s: &[u8], place: usize, at: usize) -> Symbol
     let token = token_at(s, at);
     let kind = token.kind;
     let next = token.next;
-    match kind {
-        TokenKind::Sign => {
-            let operator = token.operator;
-            literal_at(c, s, place, operator, next)
-        }
+    // `literal_at` is called in one place, where the compiler puts it: a symbol is too large to be handed through memory twice.
+    let operator = match kind {
+        TokenKind::Sign => token.operator,
         TokenKind::Word => {
             let from = token.from;
             let to = token.to;
-            if is_word(&s[from..to], b"startswith") {
-                literal_at(c, s, place, PredicateOperator::StartsWith, next)
-            } else {
-                plain(SymbolKind::Unreadable, next)
+            if !is_word(&s[from..to], b"startswith") {
+                return plain(SymbolKind::Unreadable, next);
             }
+            PredicateOperator::StartsWith
         }
-        _ => plain(SymbolKind::Unreadable, next),
-    }
+        _ => return plain(SymbolKind::Unreadable, next),
+    };
+    literal_at(c, s, place, operator, next)
 }
 
 // The symbol that begins with the word from `from` to `to`, after which the text goes on at `next`: the word itself, or a leaf of the column of that name.
