@@ -112,7 +112,7 @@ if [ -n "$registry" ]; then
 elif [ -n "$alone" ]; then
   # what has no dependency but on its neighbours
   rm -rf "$work"/{.cargo,Cargo.lock,iceberg-glue,standins,beside,compare,bench}
-  sed -i -e 's/^members = .*/members = ["sheets", "timing", "filters"]/' -e '/^iceberg = /d' "$work/Cargo.toml"
+  sed -i -e 's/^members = .*/members = ["sheets", "timing", "plain", "filters"]/' -e '/^iceberg = /d' "$work/Cargo.toml"
   offline=--offline
 else
   crate=$(realpath "$crate")

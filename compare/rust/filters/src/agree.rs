@@ -9,7 +9,6 @@ use sheets::leaf::{CONTENT, RECORD, Value, column, number, transform};
 use sheets::port;
 use sheets::sheet::{COLUMN, TRANSFORM};
 
-use crate::plain;
 use crate::writer::{EXAMPLE, GRAMS, LOT, filter, int, long, records, string};
 
 const ASKED: [Asked; 3] = [Asked::Row, Asked::Inclusive, Asked::Strict];
@@ -23,7 +22,7 @@ const REFUSED: [Column; COLUMNS] = [
     Column { name: "a", column: column::INT, transform: transform::TRUNCATE, width: 0 },
     Column { name: "b", column: column::INT, transform: transform::TRUNCATE, width: 1 << 31 },
     Column { name: "c", column: column::DATE, transform: transform::TRUNCATE, width: 10 },
-    Column { name: "d", column: column::STRING, transform: transform::UNKNOWN, width: 0 },
+    Column { name: "d", column: column::INT, transform: transform::UNKNOWN, width: 0 },
     Column { name: "e", column: column::STRING, transform: transform::VOID, width: 0 },
     Column { name: "f", column: column::LONG, transform: transform::TRUNCATE, width: 7 },
     Column { name: "g", column: column::STRING, transform: transform::TRUNCATE, width: 0 },
@@ -55,10 +54,13 @@ pub fn compare_answers() {
     }
     let texts = [string("ab"), string("abc"), Value::Missing];
     for text in drawn(&mut draw, &REFUSED) {
-        let [d, e, g] = [0, 1, 2].map(|_| texts[draw.below(3) as usize].clone());
+        let [e, g] = [0, 1].map(|_| texts[draw.below(3) as usize].clone());
         let numbers = [int(300), int(-7), int(12)];
-        let values = [&numbers[..], &[d, e, long(i64::MIN), g, long(7)]].concat();
-        compared.ask(&ASKED, &column_list(&REFUSED), &text, &records(&values));
+        // a row has an Int in `d`, and partition values a String, since the transform is Unknown
+        for d in [int(5), string("ab"), Value::Missing] {
+            let values = [&numbers[..], &[d, e.clone(), long(i64::MIN), g.clone(), long(7)]].concat();
+            compared.ask(&ASKED, &column_list(&REFUSED), &text, &records(&values));
+        }
     }
     for text in drawn(&mut draw, &OTHERS) {
         let mut values: Vec<Value> = (0..6).map(|_| Value::Present(draw.moment())).collect();

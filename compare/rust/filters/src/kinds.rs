@@ -7,7 +7,7 @@ use sheets::port;
 use timing::{a_call, in_turn, pass};
 
 use crate::writer::{EXAMPLE, GRAMS, LOT, Weighing, filter};
-use crate::{agree, plain, tables};
+use crate::{agree, tables};
 
 /// Weighings of a kind: several, so that no branch is learned from one alone.
 const WEIGHINGS: usize = 16;

@@ -1,6 +1,6 @@
 //! Filters as trees: what `not` makes of one, and what one is answered.
 
-use super::Refusal;
+use crate::Refusal;
 
 pub enum Filter<'a> {
     Or(Box<Filter<'a>>, Box<Filter<'a>>),

@@ -2,9 +2,9 @@
 
 use sheets::filter::Asked;
 
-use super::Refusal;
-use super::columns::{Column, Transform, Type};
-use super::tree::{Leaf, Operator, Value};
+use crate::Refusal;
+use crate::columns::{Column, Transform, Type};
+use crate::tree::{Leaf, Operator, Value};
 
 /// A predicate on partition values, if there is one.
 type Projected<'a> = Result<Option<(Operator, Value<'a>)>, Refusal>;

@@ -4,7 +4,7 @@ use sheets::filter::{COLUMNS, ENTRY, NAME, RESERVED};
 use sheets::leaf;
 use sheets::sheet::{COLUMN, NEXT, OPERATOR, TRANSFORM, WIDTH};
 
-use super::Refusal;
+use crate::Refusal;
 
 #[derive(Clone, Copy, PartialEq, Eq)]
 pub enum Type {

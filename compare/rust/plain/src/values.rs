@@ -4,9 +4,9 @@ use sheets::filter::Asked;
 use sheets::leaf::{CONTENT_AT, MISSING, RECORD};
 use sheets::sheet::{LENGTH, NEXT};
 
-use super::Refusal;
-use super::columns::{Column, Type, is_zero};
-use super::tree::Value;
+use crate::Refusal;
+use crate::columns::{Column, Type, is_zero};
+use crate::tree::Value;
 
 /// A value for each column, none where it is missing. That one is malformed comes before that another is not UTF-8.
 pub fn read<'a>(asked: Asked, columns: &[Column], values: &'a [u8]) -> Result<Vec<Option<Value<'a>>>, Refusal> {

@@ -5,10 +5,10 @@ use std::iter::Peekable;
 use sheets::filter::{BRACKETS, LEAVES, TEXT};
 use sheets::leaf::CONTENT;
 
-use super::Refusal;
-use super::columns::{Column, Type};
-use super::tokens::{Token, Tokens};
-use super::tree::{Filter, Leaf, Operator, Value};
+use crate::Refusal;
+use crate::columns::{Column, Type};
+use crate::tokens::{Token, Tokens};
+use crate::tree::{Filter, Leaf, Operator, Value};
 
 /// The filter of a text. The text is read to its end before its leaves and brackets are judged.
 pub fn read<'a>(columns: &[Column], text: &'a [u8]) -> Result<Filter<'a>, Refusal> {

@@ -1,6 +1,7 @@
 //! Document 02's filters as they are commonly written in Rust, for the comparison alone: tokens, recursive descent to a
 //! tree of boxed nodes, `not` read in a pass over the tree, and the tree asked of a row or of partition values. It takes
-//! the port's bytes and gives the port's numbers, and is neither slowed down nor tuned.
+//! the port's bytes and gives the port's numbers, and is neither slowed down nor tuned. It is a crate of its own, so that
+//! how it is compiled does not hang on who calls it.
 //!
 //! Projections are written out for the columns that the benchmark has, Truncate of a number and of a String, and for what
 //! needs no steps; the crate's own take a `BoundPredicate` and would have to be built for each leaf.

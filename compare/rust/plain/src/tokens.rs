@@ -1,7 +1,7 @@
 //! The words, signs and literals of a text.
 
-use super::Refusal;
-use super::tree::Operator;
+use crate::Refusal;
+use crate::tree::Operator;
 
 #[derive(Clone, Copy)]
 pub enum Token<'a> {
