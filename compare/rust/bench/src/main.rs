@@ -40,10 +40,10 @@ fn main() -> ExitCode {
     println!("The C name's result buffer is not cleared between calls; the crate's transform functions are ready.");
     if !kinds.is_empty() {
         let rows = Row::all(&kinds);
-        println!("\n{}\n{}", tables::crate_and_port(&rows), tables::two_callers(&rows));
+        print!("\n{}\n{}", tables::crate_and_port(&rows), tables::two_callers(&rows));
     }
     if !filters.is_empty() {
-        println!("{}", filters.tables());
+        print!("\n{}", filters.tables());
     }
     ExitCode::SUCCESS
 }

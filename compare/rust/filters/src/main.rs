@@ -16,6 +16,6 @@ fn main() -> ExitCode {
         return ExitCode::from(MISUSED);
     }
     let tables = kinds.tables();
-    println!("{}\n\n{tables}", timing::method());
+    print!("{}\n\n{tables}", timing::method());
     ExitCode::SUCCESS
 }
