@@ -1,6 +1,7 @@
 //! The leaves and values that are timed, kind by kind. Moments lie between 1970 and 2030 and strings are ASCII, where
 //! crate and port agree (docs/DIFFERENCES.md); they are drawn from a fixed seed, so every run has the same.
 
+use beside::draw::Draw;
 use beside::leaf::{LITERALS, Leaf, Question, column, operator, transform};
 
 /// Leaves of a kind: several, so that no branch is learned from one literal alone.
@@ -10,12 +11,6 @@ const SETS: usize = 4;
 /// The width for numbers, and for strings: the start of a lot code.
 const NUMBER_WIDTH: u32 = 10;
 const STRING_WIDTH: u32 = 4;
-/// Lengths of a lot code and of a start shorter than the width.
-const LOT_CODE: usize = 12;
-const SHORT_START: usize = 3;
-/// 60 years in days and in microseconds.
-const DAYS: u64 = 60 * 365;
-const MICROS: u64 = DAYS * 86_400_000_000;
 
 /// What a row of the tables is about.
 pub enum Kind {
@@ -169,48 +164,5 @@ fn values(setting: Setting) -> Values {
         transform: setting.transform,
         width: setting.width,
         contents: (0..LEAVES).map(|_| (setting.content)(&mut draw)).collect(),
-    }
-}
-
-/// Contents drawn from a fixed seed, by a multiplier and an increment modulo 2⁶⁴.
-struct Draw(u64);
-
-impl Draw {
-    fn new() -> Draw {
-        Draw(1970)
-    }
-
-    fn below(&mut self, limit: u64) -> u64 {
-        self.0 = self.0.wrapping_mul(6_364_136_223_846_793_005).wrapping_add(1_442_695_040_888_963_407);
-        // by the upper bits; the lower ones of such a sequence repeat soon
-        ((u128::from(self.0) * u128::from(limit)) >> u64::BITS) as u64
-    }
-
-    fn int(&mut self) -> Vec<u8> {
-        (self.below(1 << 31) as i32 - (1 << 30)).to_le_bytes().to_vec()
-    }
-
-    fn long(&mut self) -> Vec<u8> {
-        (self.below(1 << 63) as i64 - (1 << 62)).to_le_bytes().to_vec()
-    }
-
-    fn date(&mut self) -> Vec<u8> {
-        (self.below(DAYS) as i32).to_le_bytes().to_vec()
-    }
-
-    fn moment(&mut self) -> Vec<u8> {
-        self.below(MICROS).to_le_bytes().to_vec()
-    }
-
-    fn lot_code(&mut self) -> Vec<u8> {
-        self.letters(LOT_CODE)
-    }
-
-    fn short_start(&mut self) -> Vec<u8> {
-        self.letters(SHORT_START)
-    }
-
-    fn letters(&mut self, length: usize) -> Vec<u8> {
-        (0..length).map(|_| b'A' + self.below(26) as u8).collect()
     }
 }

@@ -7,13 +7,13 @@ use beside::crate_side::{self, Literals, Prepared, PreparedValue};
 use beside::leaf::{Answer, Leaf, Question, SHEET_BUFFER, Transformed, VALUE_BUFFER, Value, number};
 use beside::port;
 use beside::sheet::{predicate_of, sheet_of, value_of, value_record};
+use timing::{a_call, in_turn, pass};
 
-use crate::clock::{Side, in_turn};
 use crate::kinds::{Projections, Values};
 use crate::rust_crate::{self, Parts};
 
 /// Nanoseconds a call, in the order of the sides.
-pub type Times = [Option<f64>; 5];
+pub type Times = timing::Times<5>;
 
 /// The sides: the crate from what is ready and from literals, the port's C name, the port's Rust crate from what is ready
 /// and from literals.
@@ -112,15 +112,6 @@ pub fn time_transform(kind: &Values) -> Times {
     a_call(times, records.len())
 }
 
-/// A pass: the call for each input, once, with its result dropped.
-fn pass<'a, T, R>(inputs: &'a [T], mut call: impl FnMut(&T) -> R + 'a) -> Option<Side<'a>> {
-    Some(Box::new(move || {
-        for input in inputs {
-            black_box(&call(black_box(input)));
-        }
-    }))
-}
-
 /// The three sides give the same answer.
 fn compare_projection(question: Question, leaf: &Leaf, sheet: &[u8], out: &mut [u8]) {
     let (number, count) = port::project(question, sheet, out);
@@ -129,9 +120,4 @@ fn compare_projection(question: Question, leaf: &Leaf, sheet: &[u8], out: &mut [
     assert_eq!(answer, crate_side::project(question, leaf), "{leaf:?}");
     let typed = rust_crate::project(question, &rust_crate::leaf(sheet)).expect("no refusal");
     assert_eq!(typed.expect("a predicate").as_bytes(), written, "{leaf:?}");
-}
-
-/// From the time of a pass to the time of one call of it.
-fn a_call(pass: Times, calls: usize) -> Times {
-    pass.map(|side| side.map(|ns| ns / calls as f64))
 }

@@ -1,5 +1,7 @@
 //! The rows that were timed, and the two tables of them.
 
+use timing::{best_of_laps, cell, ratio};
+
 use crate::kinds::Kind;
 use crate::sides::{self, C_NAME, CRATE, CRATE_LITERALS, RUST, RUST_LITERALS, Times};
 
@@ -11,21 +13,15 @@ pub struct Row {
 }
 
 impl Row {
-    /// Times a kind.
-    pub fn time(kind: &Kind) -> Row {
-        let times = match kind {
+    /// Times all kinds.
+    pub fn all(kinds: &[Kind]) -> Vec<Row> {
+        let times = best_of_laps(kinds, |kind| match kind {
             Kind::Projection(kind) => sides::time_projection(kind),
             Kind::Transform(kind) => sides::time_transform(kind),
             Kind::Holds(kind) => sides::time_holds(kind),
-        };
-        Row { name: kind.name().to_string(), asked: kind.asked(), times }
-    }
-
-    /// Keeps the better time of each side.
-    pub fn keep_best(&mut self, again: &Row) {
-        for (best, again) in self.times.iter_mut().zip(again.times) {
-            *best = best.zip(again).map(|(best, again)| best.min(again));
-        }
+        });
+        let row = |(kind, times): (&Kind, Times)| Row { name: kind.name().to_string(), asked: kind.asked(), times };
+        kinds.iter().zip(times).map(row).collect()
     }
 
     fn head(&self) -> String {
@@ -37,17 +33,12 @@ impl Row {
     }
 
     fn ratio(&self, a: usize, b: usize) -> String {
-        cell(self.times[a].zip(self.times[b]).map(|(a, b)| a / b))
+        cell(ratio(self.times[a], self.times[b]))
     }
 
     fn above(&self, a: usize, b: usize) -> String {
         cell(self.times[a].zip(self.times[b]).map(|(a, b)| a - b))
     }
-}
-
-/// A number with one digit after the point; `–` for none.
-fn cell(number: Option<f64>) -> String {
-    number.map_or("–".to_string(), |number| format!("{number:.1}"))
 }
 
 /// The crate, from what is ready, and the port's C name.

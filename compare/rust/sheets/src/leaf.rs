@@ -23,7 +23,7 @@ pub const SHEET_BUFFER: usize = (1 + ANSWER_LITERALS) * RECORD;
 /// Bytes that the result buffer of one transformed value must have.
 pub const VALUE_BUFFER: usize = RECORD;
 
-/// Document 01's answer numbers.
+/// The answers' numbers, document 01's first.
 pub mod number {
     pub const WRITTEN: u32 = 0;
     pub const NONE: u32 = 1;
@@ -34,6 +34,9 @@ pub mod number {
     pub const DATA_INVALID: u32 = 6;
     pub const FEATURE_UNSUPPORTED: u32 = 7;
     pub const PANIC: u32 = 8;
+    /// Document 02's, of filters alone.
+    pub const OUTSIDE_GRAMMAR: u32 = 9;
+    pub const TOO_LARGE: u32 = 10;
 }
 
 /// Column types.

@@ -4,12 +4,12 @@
 use crate::leaf::{ANSWER_LITERALS, CONTENT, CONTENT_AT, Leaf, MISSING, RECORD, Value, column, transform};
 
 /// Where the fields stand in a head (record 0) and in a literal record.
-const NEXT: usize = 0;
-const OPERATOR: usize = 2;
-const COLUMN: usize = 4;
-const TRANSFORM: usize = 5;
-const WIDTH: usize = 8;
-const LENGTH: usize = 2;
+pub const NEXT: usize = 0;
+pub const OPERATOR: usize = 2;
+pub const COLUMN: usize = 4;
+pub const TRANSFORM: usize = 5;
+pub const WIDTH: usize = 8;
+pub const LENGTH: usize = 2;
 
 /// The sheet of a leaf, its literals in records 1, 2, .. as they come.
 pub fn sheet_of(leaf: &Leaf) -> Vec<u8> {
@@ -23,10 +23,7 @@ pub fn sheet_chained(leaf: &Leaf, order: &[usize]) -> Vec<u8> {
     assert_eq!(order.len(), leaf.literals.len(), "one record for each literal");
     let records = 1 + order.iter().copied().max().unwrap_or(0);
     let mut sheet = vec![0; records * RECORD];
-    put_u16(&mut sheet, OPERATOR, leaf.operator);
-    sheet[COLUMN] = leaf.column;
-    sheet[TRANSFORM] = leaf.transform;
-    sheet[WIDTH..WIDTH + 4].copy_from_slice(&leaf.width.to_le_bytes());
+    sheet[..RECORD].copy_from_slice(&head(leaf.operator, leaf.column, leaf.transform, leaf.width));
     let mut last = 0;
     for (literal, &record) in leaf.literals.iter().zip(order) {
         put_u16(&mut sheet, last * RECORD + NEXT, record as u16);
@@ -34,6 +31,16 @@ pub fn sheet_chained(leaf: &Leaf, order: &[usize]) -> Vec<u8> {
         last = record;
     }
     sheet
+}
+
+/// A head with next 0.
+pub fn head(operator: u16, column: u8, transform: u8, width: u32) -> [u8; RECORD] {
+    let mut head = [0; RECORD];
+    put_u16(&mut head, OPERATOR, operator);
+    head[COLUMN] = column;
+    head[TRANSFORM] = transform;
+    head[WIDTH..WIDTH + 4].copy_from_slice(&width.to_le_bytes());
+    head
 }
 
 /// The record of one value.

@@ -1,6 +1,7 @@
 //! The port's C entry points (crates/weighpick_c), called with slices. Each hands back document 01's number and, where
 //! there is one, the count of bytes written.
 
+use crate::filter::Asked;
 use crate::leaf::Question;
 
 unsafe extern "C" {
@@ -23,6 +24,30 @@ unsafe extern "C" {
         count: *mut u64,
     ) -> u32;
     fn weighpick_holds(sheet: *const u8, sheet_len: usize, value: *const u8, value_len: usize) -> u32;
+    fn weighpick_filter_row(
+        columns: *const u8,
+        columns_len: usize,
+        text: *const u8,
+        text_len: usize,
+        values: *const u8,
+        values_len: usize,
+    ) -> u32;
+    fn weighpick_filter_project(
+        columns: *const u8,
+        columns_len: usize,
+        text: *const u8,
+        text_len: usize,
+        values: *const u8,
+        values_len: usize,
+    ) -> u32;
+    fn weighpick_filter_strict_project(
+        columns: *const u8,
+        columns_len: usize,
+        text: *const u8,
+        text_len: usize,
+        values: *const u8,
+        values_len: usize,
+    ) -> u32;
 }
 
 /// What the count holds before a call, so that a count that was not set shows.
@@ -66,4 +91,16 @@ pub fn transform(column: u8, transform: u8, width: u32, value: &[u8], out: &mut 
 pub fn holds(sheet: &[u8], value: &[u8]) -> u32 {
     // SAFETY: pointers and lengths are those of live slices, which the routine only reads.
     unsafe { weighpick_holds(sheet.as_ptr(), sheet.len(), value.as_ptr(), value.len()) }
+}
+
+/// What a filter is answered by the values of its columns: the number.
+#[inline]
+pub fn filter(asked: Asked, columns: &[u8], text: &[u8], values: &[u8]) -> u32 {
+    let routine = match asked {
+        Asked::Row => weighpick_filter_row,
+        Asked::Inclusive => weighpick_filter_project,
+        Asked::Strict => weighpick_filter_strict_project,
+    };
+    // SAFETY: as in `holds`.
+    unsafe { routine(columns.as_ptr(), columns.len(), text.as_ptr(), text.len(), values.as_ptr(), values.len()) }
 }

@@ -1,0 +1,13 @@
+//! What the port is asked and answers, without the crate iceberg.
+//!
+//! - `leaf`: leaves, values and answers in document 01's numbers
+//! - `sheet`: the same as bytes, written and read
+//! - `filter`: document 02's column lists, and its limits
+//! - `draw`: contents from a fixed seed
+//! - `port`: weighpick's C entry points
+
+pub mod draw;
+pub mod filter;
+pub mod leaf;
+pub mod port;
+pub mod sheet;
