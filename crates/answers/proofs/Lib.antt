@@ -1,5 +1,5 @@
 -- Lemmas that several proofs share.
-pub mod Columns
+pub mod ColumnKinds
 pub mod OtherTransforms
 pub mod NumberAnswers
 pub mod BytesAnswers

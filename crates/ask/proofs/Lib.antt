@@ -1,3 +1,3 @@
 -- Lemmas that several proofs share.
-pub mod PartArms
-pub mod NumberArms
+pub mod PartAnswerArms
+pub mod NumberAnswerArms

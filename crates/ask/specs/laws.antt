@@ -1,3 +1,3 @@
 -- The laws about the definitions of `ask`.
-pub mod PartLaws
+pub mod PartAnswerLaws
 pub mod AskLaws

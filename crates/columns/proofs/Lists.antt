@@ -24,14 +24,14 @@ use Rattle.sheet.specs.declared.head.Fields.{Fields}
 use Rattle.sheet.specs.declared.head.FieldsResult.{FieldsResult}
 use Rattle.sheet.specs.declared.head.FieldsResult.the-variants as fields-result
 use Rattle.columns.specs.Columns.{nameSize, entrySize, plainHead, firstNumbers}
-use Rattle.columns.specs.code.ColumnAnswers.{nameBytes, nameAt, headAt, readEntry, firstNames, goodTo, columnsIn, columnAt, fieldsOf, placeAmong}
+use Rattle.columns.specs.code.ColumnAnswers.{nameBytes, nameAt, headBytes, readEntry, firstNames, goodTo, columnsIn, columnAt, fieldsOf, placeAmong}
 use Rattle.columns.specs.laws.ColumnLaws.{Listed, good-next, good-all}
 use Rattle.columns.specs.laws.EachLaws.{first-length, first-at}
 use Rattle.columns.specs.laws.NameLaws.{place-elem}
 
 -- ---- heads
 
-pub head-whole : (c : List ℕ) (k : ℕ) → entrySize * (k + 1) ≤ length c → recordSize ≤ length (headAt c k)
+pub head-whole : (c : List ℕ) (k : ℕ) → entrySize * (k + 1) ≤ length c → recordSize ≤ length (headBytes c k)
 head-whole c k there = omega (arith, length-take-le recordSize (drop (entrySize * k + nameSize) c) (rw length-drop (omega arith)))
 
 module _ (head : List ℕ) {n : ℕ} (next : n ≡ word 0 2 head) where
@@ -54,7 +54,7 @@ fields-refused (ok h) told e is = cc
 fields-refused (err k) told e is = refl
 
 -- what is read of the head of a column in a good list
-module _ (c : List ℕ) (k : ℕ) (h : Listed c k) {r : FieldsResult} (told : r ≡ fieldsResult (fields (headAt c k))) where
+module _ (c : List ℕ) (k : ℕ) (h : Listed c k) {r : FieldsResult} (told : r ≡ fieldsResult (fields (headBytes c k))) where
   read-so : r ≡ fields-result.Ok (fieldsOf (columnAt (columnsIn c) k .head))
   read-so = told ∙ ap fieldsResult (h .head)
 

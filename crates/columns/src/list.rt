@@ -18,7 +18,7 @@ ghost use Rattle.values.specs.Order.{compareBytes, isEqual};
 ghost use Rattle.sheet.specs.Records.{recordSize};
 ghost use Rattle.sheet.specs.code.ReadAnswers.{isOk};
 ghost use Rattle.columns.specs.Columns.{entrySize, plainHead};
-ghost use Rattle.columns.specs.code.ColumnAnswers.{nameAt, headAt, readEntry, firstNames, goodTo, columnsIn, columnAt, fieldsOf, placeAmong, placeOf};
+ghost use Rattle.columns.specs.code.ColumnAnswers.{nameAt, headBytes, readEntry, firstNames, goodTo, columnsIn, columnAt, fieldsOf, placeAmong, placeOf};
 
 // The most columns of a list.
 pub const COLUMN_LIMIT: usize = 8;
@@ -26,7 +26,7 @@ pub const COLUMN_LIMIT: usize = 8;
 // The head of entry k, a part of the list.
 fn head_of<'a>(c: &'a [u8], k: usize) -> &'a [u8]
     requires { ⌜ entrySize * (k + 1) ≤ length (now c) ⌝ }
-    ensures { λ r. ⌜ now r ≡ headAt (now (c .entry)) k ⌝ }
+    ensures { λ r. ⌜ now r ≡ headBytes (now (c .entry)) k ⌝ }
 {
     let from = ENTRY_SIZE * k + NAME_SIZE;
     let to = from + RECORD_SIZE;

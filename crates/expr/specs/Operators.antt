@@ -85,7 +85,7 @@ operatorOf (one notStartsWith) = NotStartsWith
 operatorOf (many isIn) = In
 operatorOf (many notIn) = NotIn
 
--- the operator that holds of a present value exactly where the other does not
+-- 02: "its opposite operator": it holds of a present value exactly where the other does not
 abbrev pub oppositeBinary : Binary → Binary
 oppositeBinary lessThan = greaterThanOrEq
 oppositeBinary lessThanOrEq = greaterThan

@@ -28,7 +28,7 @@ use Rattle.filter.specs.FilterDemand.{headAt, placesIn, Rows, Kept, FilterLoses
 use Rattle.filter.specs.FilterDemand.{OneLeafRow, OneLeafParts, FiltersLoseNothing}
 use Rattle.filter.specs.FilterRoutines.{filterIn, turn, filterRow, filterParts}
 use Rattle.demand.proofs.ReadBackLaws.{sheetOf}
-use Rattle.filterdemand.proofs.CellLaws.{column-head, CellAt, cells-columns, cell-at}
+use Rattle.filterdemand.proofs.ListedCells.{CellAt, cells-columns, column-head, cell-at}
 use Rattle.filterdemand.proofs.FittedLaws.{Fitted, leaf-fitted, turn-fitted}
 use Rattle.filterdemand.proofs.FoundLaws.{filter-every}
 use Rattle.filterdemand.proofs.JoinedLaws.{EveryLeaf, EveryTurned, straight-every, turned-map, every-both}
@@ -54,7 +54,7 @@ all-fitted cs t f e = filter-every cs (Fitted cs) (λ name o l x d. leaf-fitted 
 -- ---- a fitted leaf: its head, and its column's value
 module _ (side : Side) (c v : List ℕ) (cells : List Cell) (e : cellsOf side c v ≡ ok cells) (l : Leaf) (f : Fitted (columnsOf cells) l) where
   leaf-head : let h = headAt c (l .place) in head (typeIn h) (transformIn h) (widthIn h) ≡ ok (l .head)
-  leaf-head = column-head c (columnsOf cells) (cells-columns side c v cells e) (l .place) (f .column) (f .there) ∙ ap ok (f .head-is)
+  leaf-head = column-head side c v cells e (l .place) (f .column) (f .there) ∙ ap ok (f .head-is)
 
   -- the column, as the leaf has its head
   abbrev withHead : Head → Column

@@ -38,7 +38,7 @@ use Rattle.demand.proofs.NumberKindLaws.{number-known, number-kind}
 use Rattle.demand.proofs.ReadBackLaws.{sheetOf}
 use Rattle.filterdemand.proofs.FittedLaws.{FitsIn}
 use Rattle.filterdemand.proofs.JoinedLaws.{Follows, Leads}
-use Rattle.filterdemand.proofs.KindLeafLaws.{number-leaf, bytes-leaf}
+use Rattle.filterdemand.proofs.BothKindsLaws.{number-leaf, bytes-leaf}
 use Rattle.filterdemand.proofs.LeafKindLaws.{LeafLaws, part-held, leaf-follows, leaf-leads, by-part-returned}
 
 -- ---- a row that has a partition value has a result type, and its transform is known

@@ -3,10 +3,10 @@ pub mod FilterWitnesses
 pub mod JoinedLaws
 pub mod FoundLaws
 pub mod FittedLaws
-pub mod CellLaws
+pub mod ListedCells
 pub mod LeafSheetLaws
 pub mod LeafKindLaws
 pub mod InclusiveRefusalLaws
-pub mod KindLeafLaws
+pub mod BothKindsLaws
 pub mod LeafAnswerLaws
 pub mod FilterDemandProof

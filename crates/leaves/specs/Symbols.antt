@@ -74,7 +74,7 @@ module _ (cs : List Column) where
   ofToken tokens.closing s = read grammar.closing s
   ofToken tokens.unreadable s = unread
 
-  -- of a text that does not begin with a space
+  -- the first symbol of a text
   abbrev pub symbol : List ℕ → Read
   symbol s = afterSpaces s ofToken
 

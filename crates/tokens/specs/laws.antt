@@ -1,3 +1,4 @@
 -- The laws about the definitions of `tokens`.
 pub mod DecimalLaws
 pub mod TokenLaws
+pub mod ClosingLaws

@@ -30,7 +30,7 @@ use Rattle.columns.specs.Cells.{Cell}
 use Rattle.leaves.specs.Fitting.{Leaf, decimal, text, fits, fitsLength, contentOf}
 use Rattle.ask.specs.LeafAnswers.{rowAt, rowAnswer, partAnswer}
 use Rattle.ask.specs.code.Askings.{ofPart, numberRow, numberAnswer, textAnswer}
-use Rattle.ask.specs.laws.PartLaws.{of-part}
+use Rattle.ask.specs.laws.PartAnswerLaws.{of-part}
 use Rattle.ask.specs.declared.asked.Asked.the-variants as asked
 
 -- ---- numbers: the column of one, which reads back as it was written, and a value that is as long as its type asks for

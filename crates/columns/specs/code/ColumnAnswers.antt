@@ -34,8 +34,8 @@ nameBytes c k = field (entrySize * k) nameSize c
 unfoldable pub nameAt : List ℕ → ℕ → List ℕ
 nameAt c k = leading isLetter (nameBytes c k)
 
-abbrev pub headAt : List ℕ → ℕ → List ℕ
-headAt c k = field (entrySize * k + nameSize) recordSize c
+abbrev pub headBytes : List ℕ → ℕ → List ℕ
+headBytes c k = field (entrySize * k + nameSize) recordSize c
 
 abbrev pub readEntry : List ℕ → ℕ → Res Column
 readEntry c k = column (entryAt c k)

@@ -20,7 +20,7 @@ use Rattle.sheet.specs.code.ReadAnswers.{isOk}
 use Rattle.sheet.specs.laws.PartLaws.{field-in-field}
 use Rattle.sheet.specs.laws.RefusalLaws.{OnlyMalformed, only-ok, only-bind, only-each, must, fields-only}
 use Rattle.columns.specs.Columns.{columnLimit, nameSize, entrySize, Column, reserved, nameIn, plainHead, column, firstNumbers, namesApart, columns}
-use Rattle.columns.specs.code.ColumnAnswers.{nameBytes, nameAt, headAt, readEntry, firstNames, goodTo, okOr, columnsIn, noColumn, columnAt}
+use Rattle.columns.specs.code.ColumnAnswers.{nameBytes, nameAt, headBytes, readEntry, firstNames, goodTo, okOr, columnsIn, noColumn, columnAt}
 use Rattle.columns.specs.laws.EachLaws.{then-ok, each-at, each-map, each-last, first-length, first-at}
 use Rattle.columns.specs.laws.NameLaws.{apart-last}
 
@@ -42,7 +42,7 @@ name-is bytes n e =
     sym (ok-inj (free .1))
 
 module _ (c : List ℕ) (k : ℕ) where
-  entry-steps : readEntry c k ≡ (nameIn (nameBytes c k) >>= λ n. plainHead (headAt c k) >>= λ h. ok (named n h))
+  entry-steps : readEntry c k ≡ (nameIn (nameBytes c k) >>= λ n. plainHead (headBytes c k) >>= λ h. ok (named n h))
   unfolding column
   entry-steps =
       let start : entrySize * k + 0 ≡ entrySize * k = omega arith in
@@ -52,29 +52,29 @@ module _ (c : List ℕ) (k : ℕ) where
         field-in-field (entrySize * k) entrySize nameSize recordSize c (lit≤ tt),
       )
 
-  pub entry-ok : isOk (readEntry c k) ≡ (isOk (nameIn (nameBytes c k)) && isOk (plainHead (headAt c k)))
-  entry-ok = ap isOk entry-steps ∙ both-ok (nameIn (nameBytes c k)) (plainHead (headAt c k)) named
+  pub entry-ok : isOk (readEntry c k) ≡ (isOk (nameIn (nameBytes c k)) && isOk (plainHead (headBytes c k)))
+  entry-ok = ap isOk entry-steps ∙ both-ok (nameIn (nameBytes c k)) (plainHead (headBytes c k)) named
 
-  pub entry-read : (d : Column) → readEntry c k ≡ ok d → (d .name ≡ nameAt c k) × (fields (headAt c k) ≡ ok (d .head))
+  pub entry-read : (d : Column) → readEntry c k ≡ ok d → (d .name ≡ nameAt c k) × (fields (headBytes c k) ≡ ok (d .head))
   unfolding nameAt
   entry-read d e =
       let n = gone (nameIn (nameBytes c k)) _ (sym entry-steps ∙ e) in
-      let h = gone (plainHead (headAt c k)) _ (n .2) in
-      let next = passed (eqb (nextIn (headAt c k)) 0) Malformed _ (h .1) in
-      let operator = passed (eqb (word 2 2 (headAt c k)) 0) Malformed _ (next .1) in
+      let h = gone (plainHead (headBytes c k)) _ (n .2) in
+      let next = passed (eqb (nextIn (headBytes c k)) 0) Malformed _ (h .1) in
+      let operator = passed (eqb (word 2 2 (headBytes c k)) 0) Malformed _ (next .1) in
       let is : named (n .0) (h .0) ≡ d = ok-inj (h .2) in
       rw (← is) (name-is (nameBytes c k) (n .0) (n .1), operator .1)
 
   pub entry-only : OnlyMalformed (readEntry c k)
-  entry-only = rw entry-steps (only-bind (nameIn (nameBytes c k)) _ name-only (λ n. only-bind (plainHead (headAt c k)) _ head-only (λ h. only-ok)))
+  entry-only = rw entry-steps (only-bind (nameIn (nameBytes c k)) _ name-only (λ n. only-bind (plainHead (headBytes c k)) _ head-only (λ h. only-ok)))
     where
       name-only : OnlyMalformed (nameIn (nameBytes c k))
       name-only = let name = leading isLetter (nameBytes c k) in
           must (ltb 0 (length name)) _ (must (zeroAt (length name) (nameSize - length name) (nameBytes c k)) _
           (must (not (elem compareBytes name reserved)) _ only-ok))
 
-      head-only : OnlyMalformed (plainHead (headAt c k))
-      head-only = must (eqb (nextIn (headAt c k)) 0) _ (must (eqb (word 2 2 (headAt c k)) 0) _ (fields-only (headAt c k)))
+      head-only : OnlyMalformed (plainHead (headBytes c k))
+      head-only = must (eqb (nextIn (headBytes c k)) 0) _ (must (eqb (word 2 2 (headBytes c k)) 0) _ (fields-only (headBytes c k)))
 
 pub entry-names : (c : List ℕ) (ks : List ℕ) {cs : List Column} → each (readEntry c) ks ≡ ok cs → map (λ d. d .name) cs ≡ map (nameAt c) ks
 entry-names c ks e = each-map (readEntry c) (nameAt c) (λ d. d .name) (λ k d h. entry-read c k d h .0) ks e
@@ -154,7 +154,7 @@ pub record ListRead (c : List ℕ) (cs : List Column) : Type 0 where
 pub record Listed (c : List ℕ) (k : ℕ) : Type 0 where
   pub there : entrySize * (k + 1) ≤ length c
   pub name : columnAt (columnsIn c) k .name ≡ nameAt c k
-  pub head : fields (headAt c k) ≡ ok (columnAt (columnsIn c) k .head)
+  pub head : fields (headBytes c k) ≡ ok (columnAt (columnsIn c) k .head)
 
 module _ (c : List ℕ) where
   columns-read : (cs : List Column) → columns c ≡ ok cs → (0 < length cs) × ListRead c cs
@@ -186,18 +186,21 @@ module _ (c : List ℕ) where
       go (ok cs) e = columns-read cs e .1
       go (err k) e = record { room = omega arith; few = omega arith; all = refl }
 
+  pub entry-at : (k : ℕ) → k < length (columnsIn c) → readEntry c k ≡ ok (columnAt (columnsIn c) k)
+  entry-at k h =
+      let n = length (columnsIn c) in
+      rw (first-at n k h) at (each-at (readEntry c) (firstNumbers n) (list-read .all) 0 noColumn k (rw (first-length n) h))
+
   pub listed : (k : ℕ) → k < length (columnsIn c) → Listed c k
   listed k h =
-      let n = length (columnsIn c) in
-      let at = each-at (readEntry c) (firstNumbers n) (list-read .all) 0 noColumn k (rw (first-length n) h) in
-      let entry = entry-read c k (columnAt (columnsIn c) k) (rw (first-at n k h) at at) in
+      let entry = entry-read c k (columnAt (columnsIn c) k) (entry-at k h) in
       record { there = omega (arith, list-read .room); name = entry .0; head = entry .1 }
 
   pub names-in : map (λ d. d .name) (columnsIn c) ≡ firstNames c (length (columnsIn c))
   names-in = entry-names c (firstNumbers (length (columnsIn c))) (list-read .all)
 
   -- ---- the two kinds of list, by the count
-  columns-only : OnlyMalformed (columns c)
+  pub columns-only : OnlyMalformed (columns c)
   unfolding columns
   columns-only =
       let ks = firstNumbers (length c / entrySize) in

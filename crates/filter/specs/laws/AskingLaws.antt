@@ -30,7 +30,7 @@ use Rattle.ask.specs.laws.AskLaws.{row-number, part-number, row-text, part-text
 use Rattle.filter.specs.FilterRoutines.{turn}
 use Rattle.filter.specs.code.Asking.{sideFor, askIn}
 
-row-cell : (cells : List Cell) (k : ℕ) → rowAt cells k ≡ cellAt cells k .row
+pub row-cell : (cells : List Cell) (k : ℕ) → rowAt cells k ≡ cellAt cells k .row
 row-cell [] k = refl
 row-cell (c ∷ cells) zero = refl
 row-cell (c ∷ cells) (suc k) = row-cell cells k

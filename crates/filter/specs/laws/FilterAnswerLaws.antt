@@ -1,5 +1,5 @@
 -- A filter gives a row only the numbers that document 02 names, and no filter gives 2. Assumes nothing.
-use Prim.Native.Nat.{ℕ, zero, suc, _*_}
+use Prim.Native.Nat.{ℕ, suc, _*_}
 use native.Mathlib.Omega.{arith}
 use mathlib.Core.Bool.{Bool, true, false, not, _&&_, _||_}
 use mathlib.Core.List.{List, [], _∷_, map}
@@ -24,8 +24,7 @@ use Rattle.meets.specs.laws.HeldLaws as tests
 use Rattle.meets.specs.laws.HeldLaws.{tested-held, held-only}
 use Rattle.columns.specs.Columns.{Column, columns}
 use Rattle.columns.specs.Cells.{Side, rows, typeOf, Cell, cellsFrom, readCell, cellsOf}
-use Rattle.columns.specs.code.ColumnAnswers.{columnsIn}
-use Rattle.columns.specs.laws.ColumnLaws.{columns-good, columns-broken}
+use Rattle.columns.specs.laws.ColumnLaws.{columns-only}
 use Rattle.grammar.specs.Filters.{leaves, depth, Turned, one, any, all, straight, joined, answered}
 use Rattle.grammar.specs.Parser.{Found, found, nothing, disjunction}
 use Rattle.leaves.specs.Fitting.{Leaf}
@@ -53,12 +52,8 @@ wider : {A : Type 0} {p q : ErrorKind → Type 0} {r : Res A} → ((e : ErrorKin
 wider f h = record { only = λ e d. f e (h .only e d) }
 
 -- ---- 3 and 4: the list and the values
-columns-only : (c : List ℕ) → Only Refusal (columns c)
-columns-only c = go (length (columnsIn c)) refl
-  where
-    go : (n : ℕ) → length (columnsIn c) ≡ n → Only Refusal (columns c)
-    go zero e = rw (columns-broken c e) (only-err three)
-    go (suc n) e = rw (columns-good c (omega arith)) only-ok
+list-only : (c : List ℕ) → Only Refusal (columns c)
+list-only c = wider (λ e is. inl (ap errorNumber is)) (columns-only c)
 
 module _ (side : Side) where
   values-only : (v : List ℕ) (k : ℕ) (cs : List Column) → Only Refusal (cellsFrom side v k cs)
@@ -76,7 +71,7 @@ module _ (side : Side) where
   cells-only : (c v : List ℕ) → Only Refusal (cellsOf side c v)
   unfolding cellsOf
   cells-only c v =
-      only-bind (columns c) _ (columns-only c) (λ cs.
+      only-bind (columns c) _ (list-only c) (λ cs.
       only-need (eqb (length v) (recordSize * length cs)) Malformed _ three (
       only-bind (cellsFrom side v 0 cs) _ (values-only v 0 cs) (λ cells.
       only-bind (each (readCell side) cells) _ (only-each (readCell side) cell-only cells) (λ read. only-ok))))

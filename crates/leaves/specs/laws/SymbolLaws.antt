@@ -1,14 +1,13 @@
 -- Laws of the symbols of a text: the first, and those of the text after it; and the leaf of a name. Assumes nothing.
 use Prim.Native.Nat.{ℕ, zero, suc, _+_, _-_, _≤_, _<_}
-use Prim.Native.Char.{code}
 use native.Mathlib.Nat.{zero-add}
 use native.Mathlib.Omega.{arith}
 use mathlib.Core.Bool.{Bool, true, false, cond}
-use mathlib.Core.List.{List, [], _∷_, _++_}
+use mathlib.Core.List.{List, [], _∷_}
 use mathlib.Core.Option.{Option, some, none}
 use mathlib.Core.Path.{_≡_, refl, sym, ap, _∙_, fun-ext}
 use lib.Dec.{eqb}
-use lib.IntN.{ℤ, pos, negℤ}
+use lib.IntN.{pos, negℤ}
 use lib.ListN.{length}
 use Rattle.values.specs.Characters.{ascii, isLetter, isDigit, leading, following}
 use Rattle.values.specs.Order.{compareBytes, isEqual}
@@ -17,7 +16,7 @@ use Rattle.expr.specs.Operators.{Binary}
 use Rattle.columns.specs.Columns.{Column}
 use Rattle.columns.specs.code.ColumnAnswers.{columnAt, placeOf}
 use Rattle.tokens.specs.Tokens as tokens
-use Rattle.tokens.specs.Tokens.{Token, Taken, taken, isSpace, isText, wordAt, decimalAt, minusAt, unquoted, quotedAt, longest, token}
+use Rattle.tokens.specs.Tokens.{Token, Taken, taken, isSpace, isText, decimalAt, minusAt, unquoted, quotedAt, longest, token}
 use Rattle.grammar.specs.Grammar as grammar
 use Rattle.grammar.specs.Grammar.{Symbol}
 use Rattle.leaves.specs.Fitting.{Literal, Leaf, leafFrom, leafOf}
@@ -219,52 +218,3 @@ module _ (cs : List Column) (name s : List ℕ) where
 
       on-taken : (x : Taken) (f : Token → List ℕ → Read) → ((t : Token) (rest : List ℕ) → f t rest ≡ unread) → onTaken f x ≡ unread
       on-taken (taken t rest) f go = go t rest
-
--- ---- a closing bracket ends every token but text in quotes: the text before it is read as if it stood alone
-abbrev pub closedBy : List ℕ → Taken → Taken
-closedBy b (taken t rest) = taken t (rest ++ (code ")" ∷ b))
-
-module _ (b : List ℕ) where
-  leading-closed : (passes : ℕ → Bool) → passes (code ")") ≡ false → (a : List ℕ) → leading passes (a ++ (code ")" ∷ b)) ≡ leading passes a
-  leading-closed passes z [] = rw z
-  leading-closed passes z (c ∷ a) = rw (leading-closed passes z a)
-
-  following-closed : (passes : ℕ → Bool) → passes (code ")") ≡ false → (a : List ℕ)
-      → following passes (a ++ (code ")" ∷ b)) ≡ following passes a ++ (code ")" ∷ b)
-  following-closed passes z [] = rw z
-  following-closed passes z (c ∷ a) = go (passes c) (following-closed passes z a)
-    where
-      go : (t : Bool) → following passes (a ++ (code ")" ∷ b)) ≡ following passes a ++ (code ")" ∷ b)
-          → cond t (following passes (a ++ (code ")" ∷ b))) (c ∷ (a ++ (code ")" ∷ b))) ≡ cond t (following passes a) (c ∷ a) ++ (code ")" ∷ b)
-      go true e = e
-      go false e = refl
-
-  word-closed : (a : List ℕ) → wordAt (a ++ (code ")" ∷ b)) ≡ closedBy b (wordAt a)
-  word-closed a = rw (leading-closed isLetter refl a, following-closed isLetter refl a)
-
-  decimal-closed : (signed : ℕ → ℤ) (a : List ℕ) → decimalAt signed (a ++ (code ")" ∷ b)) ≡ closedBy b (decimalAt signed a)
-  decimal-closed signed a = rw (leading-closed isDigit refl a, following-closed isDigit refl a)
-
-  chosen : (t : Bool) (x y v w : Taken) → x ≡ closedBy b v → y ≡ closedBy b w → cond t x y ≡ closedBy b (cond t v w)
-  chosen true x y v w e f = e
-  chosen false x y v w e f = f
-
-  minus-closed : (a : List ℕ) → minusAt (a ++ (code ")" ∷ b)) ≡ closedBy b (minusAt a)
-  minus-closed [] = refl
-  minus-closed (c ∷ a) = chosen (isDigit c) _ _ _ _ (decimal-closed (λ n. negℤ (pos n)) (c ∷ a)) refl
-
-  longest-closed : (with without : Token) (a : List ℕ) → longest with without (a ++ (code ")" ∷ b)) ≡ closedBy b (longest with without a)
-  longest-closed with without [] = refl
-  longest-closed with without (c ∷ a) = chosen (eqb c (code "=")) _ _ _ _ refl refl
-
-  pub closing-ends : (c : ℕ) (a : List ℕ) → eqb c (code "'") ≡ false → token (c ∷ (a ++ (code ")" ∷ b))) ≡ closedBy b (token (c ∷ a))
-  closing-ends c a other = rw other
-      (chosen (isLetter c) _ _ _ _ (word-closed (c ∷ a))
-      (chosen (isDigit c) _ _ _ _ (decimal-closed pos (c ∷ a))
-      (chosen (eqb c 45) _ _ _ _ (minus-closed a)
-      (chosen (eqb c 40) _ _ _ _ refl
-      (chosen (eqb c 41) _ _ _ _ refl
-      (chosen (eqb c 60) _ _ _ _ (longest-closed _ _ a)
-      (chosen (eqb c 62) _ _ _ _ (longest-closed _ _ a)
-      (chosen (eqb c 61) _ _ _ _ refl
-      (chosen (eqb c 33) _ _ _ _ (longest-closed _ _ a) refl)))))))))

@@ -3,7 +3,7 @@ use borrow.Author.Needs.{needs}
 use Rattle.answers.specs.code.Leaves.{NumberColumn, BytesColumn}
 use Rattle.answers.specs.laws.SettledLaws.{settled-as}
 use Rattle.answers.specs.laws.StepsLaws.{bytes-steps, number-steps}
-use Rattle.answers.proofs.Columns.{bytes-column, number-column}
+use Rattle.answers.proofs.ColumnKinds.{bytes-column, number-column}
 use Rattle.answers.proofs.project.project_binary.Statement.{statement}
 use Rattle.answers.proofs.project.project_binary.Tie as tie
 

@@ -7,7 +7,7 @@ use Rattle.expr.specs.Operators.{byArity}
 use Rattle.answers.specs.code.Leaves.{keeps, NumberColumn, BytesColumn}
 use Rattle.answers.specs.laws.SettledLaws.{settled-none, settled-as}
 use Rattle.answers.specs.laws.StepsLaws.{bytes-steps, number-steps, set-not-kept}
-use Rattle.answers.proofs.Columns.{bytes-column, number-column}
+use Rattle.answers.proofs.ColumnKinds.{bytes-column, number-column}
 use Rattle.answers.proofs.project.project_set.Statement.{statement}
 use Rattle.answers.proofs.project.project_set.Tie as tie
 

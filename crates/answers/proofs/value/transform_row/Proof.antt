@@ -14,7 +14,7 @@ use Rattle.answers.specs.code.Leaves.{NumberColumn, BytesColumn}
 use Rattle.answers.specs.laws.SettledLaws.{settled-refused, settled-as}
 use Rattle.answers.specs.laws.RowAnswerLaws.{row-not-utf8, row-no-type, row-of-numbers, row-of-bytes, row-sized}
 use Rattle.values.specs.laws.TypeResultLaws.{type-told}
-use Rattle.answers.proofs.Columns.{bytes-column, number-column}
+use Rattle.answers.proofs.ColumnKinds.{bytes-column, number-column}
 use Rattle.answers.proofs.value.transform_row.Statement.{statement}
 use Rattle.answers.proofs.value.transform_row.Tie as tie
 

@@ -7,8 +7,8 @@ use Rattle.values.specs.Outcomes.{row}
 use Rattle.values.specs.laws.SignedLaws.{back}
 use Rattle.expr.specs.Operators.{byArity}
 use Rattle.ask.specs.code.Askings.{ofPart}
-use Rattle.ask.specs.laws.PartLaws.{part-type, number-of-row}
-use Rattle.ask.proofs.NumberArms.{row-sized}
+use Rattle.ask.specs.laws.PartAnswerLaws.{part-type, number-of-row}
+use Rattle.ask.proofs.NumberAnswerArms.{row-sized}
 use Rattle.ask.proofs.number.ask_number.Statement.{statement}
 use Rattle.ask.proofs.number.ask_number.Tie as tie
 

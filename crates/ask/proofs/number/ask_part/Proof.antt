@@ -14,9 +14,9 @@ use Rattle.numbers.specs.code.Boundaries.{numberLeaf, numberProjected}
 use Rattle.answers.specs.laws.NumberLeafLaws.{leaf-inside}
 use Rattle.meets.specs.Tested.{heldAs}
 use Rattle.ask.specs.code.Askings.{numberRow, stepHeld}
-use Rattle.ask.specs.laws.PartLaws.{NumberPart, number-of-part}
-use Rattle.ask.proofs.NumberArms.{part-sized, inside-long}
-use Rattle.ask.proofs.PartArms.{Stepping, stepping}
+use Rattle.ask.specs.laws.PartAnswerLaws.{NumberPart, number-of-part}
+use Rattle.ask.proofs.NumberAnswerArms.{part-sized, inside-long}
+use Rattle.ask.proofs.PartAnswerArms.{Stepping, stepping}
 use Rattle.ask.proofs.number.ask_part.Statement.{statement}
 use Rattle.ask.proofs.number.ask_part.Tie as tie
 

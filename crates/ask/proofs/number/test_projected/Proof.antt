@@ -3,7 +3,7 @@ use denote.Ref.{now}
 use borrow.Author.Needs.{needs}
 use Rattle.values.specs.Outcomes.{row}
 use Rattle.ask.specs.code.Askings.{numberRow}
-use Rattle.ask.proofs.NumberArms.{one-answered, two-answered, two-above}
+use Rattle.ask.proofs.NumberAnswerArms.{one-answered, two-answered, two-above}
 use Rattle.ask.proofs.number.test_projected.Statement.{statement}
 use Rattle.ask.proofs.number.test_projected.Tie as tie
 

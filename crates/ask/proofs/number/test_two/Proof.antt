@@ -10,7 +10,7 @@ use Rattle.values.specs.Words.{leNumber, signed}
 use Rattle.values.specs.laws.SignedLaws as ints
 use Rattle.values.specs.laws.TestLaws.{called-no, called-yes}
 use Rattle.meets.specs.Tested.{heldAs}
-use Rattle.ask.proofs.NumberArms.{above-fits, above-is, first-met, second-asked}
+use Rattle.ask.proofs.NumberAnswerArms.{above-fits, above-is, first-met, second-asked}
 use Rattle.ask.proofs.number.test_two.Statement.{statement}
 use Rattle.ask.proofs.number.test_two.Tie as tie
 

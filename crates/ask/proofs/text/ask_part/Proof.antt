@@ -11,8 +11,8 @@ use Rattle.expr.specs.Holds.{bytesTests}
 use Rattle.expr.specs.Operators.{byArity}
 use Rattle.meets.specs.Tested.{heldAs}
 use Rattle.ask.specs.code.Askings.{stepHeld}
-use Rattle.ask.specs.laws.PartLaws.{TextPart, text-of-part}
-use Rattle.ask.proofs.PartArms.{only-void}
+use Rattle.ask.specs.laws.PartAnswerLaws.{TextPart, text-of-part}
+use Rattle.ask.proofs.PartAnswerArms.{only-void}
 use Rattle.ask.proofs.text.ask_part.Statement.{statement}
 use Rattle.ask.proofs.text.ask_part.Tie as tie
 

@@ -6,7 +6,7 @@ use borrow.Author.Needs.{needs}
 use Rattle.values.specs.Outcomes.{row}
 use Rattle.expr.specs.Operators.{byArity}
 use Rattle.ask.specs.code.Askings.{ofPart}
-use Rattle.ask.specs.laws.PartLaws.{text-of-row}
+use Rattle.ask.specs.laws.PartAnswerLaws.{text-of-row}
 use Rattle.ask.proofs.text.ask_text.Statement.{statement}
 use Rattle.ask.proofs.text.ask_text.Tie as tie
 

@@ -9,7 +9,7 @@ use Rattle.values.specs.Outcomes.{row}
 use Rattle.expr.specs.Holds.{bytesTests}
 use Rattle.expr.specs.Operators.{byArity}
 use Rattle.meets.specs.Tested.{heldAs}
-use Rattle.ask.specs.laws.PartLaws.{step-one}
+use Rattle.ask.specs.laws.PartAnswerLaws.{step-one}
 use Rattle.ask.proofs.text.test_projected.Statement.{statement}
 use Rattle.ask.proofs.text.test_projected.Tie as tie
 

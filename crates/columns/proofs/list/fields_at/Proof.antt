@@ -3,13 +3,13 @@ use mathlib.Core.Path.{_≡_}
 use borrow.Author.Needs.{needs}
 use Rattle.sheet.specs.Sheets.{fields}
 use Rattle.sheet.specs.code.ReadAnswers.{fieldsResult}
-use Rattle.columns.specs.code.ColumnAnswers.{headAt}
+use Rattle.columns.specs.code.ColumnAnswers.{headBytes}
 use Rattle.columns.specs.laws.ColumnLaws.{Listed, listed}
 use Rattle.columns.proofs.Lists.{head-whole, fields-are, never-refused}
 use Rattle.columns.proofs.list.fields_at.Statement.{statement}
 use Rattle.columns.proofs.list.fields_at.Tie as tie
 
-told : (c : tie.After-read-fields) → let a = c .before .before .before .args in c .read-fields .result ≡ fieldsResult (fields (headAt (a .c .now) (a .k)))
+told : (c : tie.After-read-fields) → let a = c .before .before .before .args in c .read-fields .result ≡ fieldsResult (fields (headBytes (a .c .now) (a .k)))
 told c = rw (← c .before .head-of .ensures) (c .read-fields .ensures)
 
 at : (c : tie.After-read-fields) → let a = c .before .before .before .args in Listed (a .c .now) (a .k)

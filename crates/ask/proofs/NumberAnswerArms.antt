@@ -38,7 +38,7 @@ use Rattle.columns.specs.Cells.{typeOr}
 use Rattle.answers.specs.code.Leaves.{NumbersIn, hasSteps}
 use Rattle.ask.specs.code.Askings.{numberRow, NumberSized, meetsRow, stepHeld}
 use Rattle.ask.specs.laws.AskLaws.{number-column}
-use Rattle.ask.specs.laws.PartLaws.{step-one}
+use Rattle.ask.specs.laws.PartAnswerLaws.{step-one}
 
 -- ---- the sizes of a column's numbers and of its partition values
 column-numbers : (column : PrimitiveType) (z : ℤ) → inType column z ≡ true → isBytes (layout column) ≡ false
