@@ -1,4 +1,4 @@
--- Truncate of a number and of a string. Assumes nothing.
+-- Truncate of a number, of a string and of a binary. Assumes nothing.
 use Prim.Native.Nat.{ℕ}
 use mathlib.Core.List.{List, [], _∷_}
 use mathlib.Core.Path.{_≡_, refl}
@@ -15,7 +15,15 @@ truncated width v = v -ℤ pos (floorMod v width)
 unfoldable pub firstCodePoints : ℕ → List ℕ → List ℕ
 firstCodePoints width s = concat (take width (codePoints s))
 
--- "aéb" cut to two code points is "aé"
+-- 02, #102: "Truncate of a Binary is now its first width bytes, as the specification has it"
+unfoldable pub firstBytes : ℕ → List ℕ → List ℕ
+firstBytes width s = take width s
+
+-- "aéb" cut to two code points is "aé", and cut to two bytes ends within "é"
 two : firstCodePoints 2 (0x61 ∷ 0xC3 ∷ 0xA9 ∷ 0x62 ∷ []) ≡ 0x61 ∷ 0xC3 ∷ 0xA9 ∷ []
 unfolding firstCodePoints codePoints
 two = refl
+
+two-bytes : firstBytes 2 (0x61 ∷ 0xC3 ∷ 0xA9 ∷ 0x62 ∷ []) ≡ 0x61 ∷ 0xC3 ∷ []
+unfolding firstBytes
+two-bytes = refl

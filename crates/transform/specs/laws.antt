@@ -3,6 +3,7 @@ pub mod FloorLaws
 pub mod TruncateLaws
 pub mod Cutting
 pub mod StringLaws
+pub mod BinaryLaws
 pub mod CountLaws
 pub mod GregorianLaws
 pub mod CalendarLaws

@@ -1,9 +1,9 @@
-// Truncate of numbers and of strings (src/transform/truncate.rs).
+// Truncate of numbers, of strings and of binaries (src/transform/truncate.rs).
 use crate::floor::floor_rem;
 use values::utf8::continues_code_point;
 ghost use mathlib.Core.Path.{_≡_};
 ghost use lib.ListN.{length};
-ghost use Rattle.transform.specs.Truncate.{firstCodePoints};
+ghost use Rattle.transform.specs.Truncate.{firstCodePoints, firstBytes};
 ghost use Rattle.transform.specs.code.TransformAnswers.{truncatedLong};
 
 // A truncated number of 64 bits, or nothing where the width is 0 or the number would fall below the lowest.
@@ -58,5 +58,16 @@ pub fn truncate_str<'a>(s: &'a [u8], width: u32) -> &'a [u8]
     ensures { λ r. ⌜ now r ≡ firstCodePoints width (now (s .entry)) ⌝ }
 {
     let n = prefix_len(s, width);
+    &s[..n]
+}
+
+// The first width bytes of s, a part of what was lent.
+pub fn truncate_binary<'a>(s: &'a [u8], width: u32) -> &'a [u8]
+    ensures { λ r. ⌜ now r ≡ firstBytes width (now (s .entry)) ⌝ }
+{
+    let n = width as usize;
+    if s.len() <= n {
+        return s;
+    }
     &s[..n]
 }

@@ -3,7 +3,7 @@
 use Prim.Native.Nat.{ℕ, zero, suc, _-_, _≤_}
 use native.Mathlib.Nat.{zero-sub, sub-zero, suc-sub-suc}
 use native.Mathlib.Omega.{arith}
-use mathlib.Core.Bool.{Bool, true, false, true≢false}
+use mathlib.Core.Bool.{Bool, true, false}
 use mathlib.Core.List.{List, [], _∷_, _++_, append-nil, append-assoc}
 use mathlib.Core.Logic.{_⊎_, inl, inr, ⊎-elim}
 use mathlib.Core.Path.{_≡_, refl, sym, ap, ap₂, _∙_}
@@ -16,7 +16,7 @@ use Rattle.values.specs.Utf8.{isCodePoint, goesOn, codePoints, allCodePoints, u
 use Rattle.values.specs.laws.TestLaws.{and-both, clash}
 use Rattle.values.specs.laws.CodePointLaws.{never-empty, beginning-equal}
 use Rattle.values.specs.laws.Utf8Laws.{concat-code-points, code-points-append, utf8-fresh, utf8-after, utf8-take}
-use Rattle.values.specs.laws.OrderLaws.{common-beginning}
+use Rattle.values.specs.laws.OrderLaws.{common-beginning, none-below-empty}
 use Rattle.values.specs.laws.PrefixLaws.{starts-append, rest-of}
 use Rattle.values.specs.declared.order.Ordering.{Ordering}
 use Rattle.values.specs.declared.order.Ordering.the-variants.{Less, Greater}
@@ -90,11 +90,6 @@ points-compared c d p q = go (compared c d)
     go (begins t e) = inl (beginning-equal c t d p q e)
     go (begun t e) = inl (sym (beginning-equal d t c q p e))
     go (decided o k) = inr (o, k)
-
-none-below-empty : (a : List ℕ) → compareBytes a [] ≡ Less → ⊥
-unfolding compareBytes
-none-below-empty [] k = true≢false (cc)
-none-below-empty (x ∷ a) k = true≢false (cc)
 
 above-empty : (b : ℕ) (a : List ℕ) → compareBytes [] (b ∷ a) ≡ Less
 unfolding compareBytes

@@ -1,5 +1,5 @@
 -- Total orders told by a comparison, those of numbers and of byte strings. Assumes nothing.
-use Prim.Native.Nat.{ℕ, _<_}
+use Prim.Native.Nat.{ℕ, zero, suc, _<_}
 use native.Mathlib.Omega.{arith}
 use mathlib.Core.Bool.{Bool, true, false, cond, true≢false}
 use mathlib.Core.List.{List, [], _∷_, _++_}
@@ -7,6 +7,7 @@ use mathlib.Core.Logic.{_⊎_, inl, inr, ⊎-elim, _↔_}
 use mathlib.Core.Path.{_≡_, refl, sym, ap, ap₂, subst, _∙_}
 use lib.Dec.{ltb}
 use lib.IntN.{ℤ}
+use lib.ListN.{take}
 use lib.Signed.{ltZ, _<ℤ_}
 use borrow.Author.Tests.{ltb-true, ltb-false, lt-ltb, le-ltb}
 use Rattle.values.specs.laws.IntLaws.{ints, lt-true, lt-false, ltZ-yes, ltZ-not, <ℤ-trans, ≤ℤ-antisym}
@@ -215,3 +216,21 @@ unfolding compareBytes
 beginning-at-most [] [] = inr refl
 beginning-at-most [] (y ∷ t) = inl refl
 beginning-at-most (x ∷ l) t = rw (first-same x (compareBytes l (l ++ t))) (beginning-at-most l t)
+
+-- nothing is below the empty byte string
+pub none-below-empty : (a : List ℕ) → compareBytes a [] ≡ Less → ⊥
+unfolding compareBytes
+none-below-empty [] k = true≢false (cc)
+none-below-empty (x ∷ a) k = true≢false (cc)
+
+-- where a is at most b, it is so once both are cut to their first bytes
+pub take-mono : (w : ℕ) (a b : List ℕ) → (compareBytes b a ≡ Less → ⊥) → compareBytes (take w b) (take w a) ≡ Less → ⊥
+unfolding compareBytes
+take-mono zero a b h k = none-below-empty [] k
+take-mono (suc w) [] b h k = none-below-empty (take (suc w) b) k
+take-mono (suc w) (x ∷ a) [] h k = h refl
+take-mono (suc w) (x ∷ a) (y ∷ b) h k =
+    ⊎-elim
+    (λ l. h (first-less y x (compareBytes b a) l))
+    (λ e. take-mono w a b (λ l. h (rw (e .0) (first-same x (compareBytes b a) ∙ l))) (e .1))
+    (by-first y x (compareBytes (take w b) (take w a)) k)
