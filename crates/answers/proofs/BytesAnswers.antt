@@ -21,7 +21,7 @@ use Rattle.expr.specs.Operators.{holdsLimit}
 use Rattle.expr.specs.declared.operator.PredicateOperator.{PredicateOperator}
 use Rattle.strings.specs.code.Prefixes.{bytesProjected, NoLonger, OneLiteral}
 use Rattle.strings.specs.declared.steps.BytesProjection.{BytesProjection}
-use Rattle.strings.specs.declared.steps.BytesProjection.the-variants.{Prefix, Err}
+use Rattle.strings.specs.declared.steps.BytesProjection.the-variants.{Prefix}
 use Rattle.sheet.specs.code.ReadAnswers.{Parts, partsAt}
 use Rattle.sheet.specs.Records.{recordSize}
 use Rattle.write.specs.Written.{answerBytes}
@@ -32,15 +32,12 @@ use Rattle.sets.specs.declared.number.Collected.the-variants as collected-as
 use Rattle.answers.specs.code.Settled.{Settled}
 use Rattle.answers.specs.laws.BytesLeafLaws.{by-transform, answer-length, parts-short, one-written, setWritten}
 use Rattle.answers.specs.laws.CollectedLaws.{found-count, found-error}
-use Rattle.answers.specs.laws.SettledLaws.{settled-refused, settled-written}
+use Rattle.answers.specs.laws.SettledLaws.{settled-written}
 use Rattle.answers.specs.code.Leaves.{oneBytesWritten, hasSteps, BytesColumn}
 use Rattle.answers.specs.declared.answer.Answer.the-variants as answer
 
 -- ---- a literal's projection
 module _ (to : PrimitiveType) (p : BytesProjection) (l before : List ℕ) where
-  pub projected-refused : (e : ErrorKind) → p ≡ Err e → Settled (oneBytesWritten to (bytesProjected l p)) before before (answer.Err e)
-  projected-refused e is = settled-refused (rw is)
-
   module _ (o : PredicateOperator) (n : ℕ) (is : p ≡ Prefix o n) where
     pub beginning-there : NoLonger (length l) p → n ≤ length l
     beginning-there h = rw is at h

@@ -36,7 +36,6 @@ fn put_projection(to: PrimitiveType, p: BytesProjection, l: &[u8], out: &mut [u8
 {
     match p {
         BytesProjection::None => Answer::NoPredicate,
-        BytesProjection::Err(e) => Answer::Err(e),
         BytesProjection::Prefix(operator, n) => {
             put_one_string(out, operator, to, &l[..n]);
             Answer::Written(RECORD * 2)

@@ -51,7 +51,6 @@ fn test_projected(
 {
     match p {
         BytesProjection::None => answered(without_predicate(question)),
-        BytesProjection::Err(e) => Held::Err(e),
         BytesProjection::Prefix(operator, n) => test_one(operator, &l[..n], present, content),
     }
 }

@@ -1,4 +1,4 @@
--- The proof of demand 3 over bytes: that the demand is about something, what it rests on, and the theorem.
+-- The proof of demand 3 over bytes: that the demand is about something, what it rests on, and the theorem; and what steps refuse with.
 pub mod RecordBytes
 pub mod Witnesses
 pub mod ReadBackLaws
@@ -9,3 +9,4 @@ pub mod ExactLaws
 pub mod BytesKindLaws
 pub mod Demand3Proof
 pub mod BufferLaws
+pub mod StepRefusalLaws

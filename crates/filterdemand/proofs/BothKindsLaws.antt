@@ -1,5 +1,6 @@
 -- Numbers and byte strings owe what one leaf asks of a kind. Assumes nothing.
 use Prim.Native.Nat.{ℕ}
+use native.Mathlib.Omega.{arith}
 use mathlib.Core.Bool.{true, not, _||_}
 use mathlib.Core.List.{List}
 use mathlib.Core.Logic.{inl}
@@ -13,18 +14,30 @@ use Rattle.values.specs.Utf8.{utf8}
 use Rattle.values.specs.Words.{leNumber, signed}
 use Rattle.values.specs.declared.datatypes.PrimitiveType.{PrimitiveType}
 use Rattle.values.specs.declared.datatypes.PrimitiveType.the-variants.{String}
-use Rattle.values.specs.declared.error.ErrorKind.the-variants.{NotUtf8}
+use Rattle.values.specs.declared.error.ErrorKind.the-variants.{NotUtf8, DataInvalid, FeatureUnsupported, Overflow}
 use Rattle.values.specs.declared.transform.Transform.{Transform}
 use Rattle.partition.specs.Partition.{known, bytesPartition}
 use Rattle.partition.specs.ResultType.{resultType}
-use Rattle.expr.specs.Predicates.{literalsIn}
+use Rattle.expr.specs.Predicates.{test, binary, literalsIn}
 use Rattle.projection.specs.laws.LeafDemand as over-values
 use Rattle.projection.specs.laws.LeafDemand.{HeldIn}
+use Rattle.projection.specs.declared.question.Question.the-variants.{Inclusive}
 use Rattle.projection.specs.laws.LeafDemandLaws.{numbers-strict-exact, numbers-inclusive-exact, bytes-no-row-lost, bytes-strict-is-safe}
 use Rattle.demand.proofs.BytesKindLaws.{ShortIn, row-parts, all-parts, bytes-values, bytes-kind}
 use Rattle.demand.proofs.NumberKindLaws.{number-result, number-values, number-kind}
-use Rattle.filterdemand.proofs.InclusiveRefusalLaws.{numbers-refused, bytes-refused}
+use Rattle.demand.proofs.StepRefusalLaws.{numbers-refused, bytes-refused}
+use Rattle.filterdemand.proofs.JoinedLaws.{Refusal}
 use Rattle.filterdemand.proofs.LeafKindLaws.{LeafLaws}
+
+-- what steps are refused with
+six : Refusal DataInvalid
+six = (omega arith, omega arith)
+
+seven : Refusal FeatureUnsupported
+seven = (omega arith, omega arith)
+
+eight : Refusal Overflow
+eight = (omega arith, omega arith)
 
 module _ (column to : PrimitiveType) (transform : Transform) (n : ℕ) (result : resultType transform column ≡ ok to) where
   pub number-leaf : (is : layout column ≡ number n) (k : known transform ≡ true) → LeafLaws (number-kind column to transform n is k result)
@@ -37,7 +50,7 @@ module _ (column to : PrimitiveType) (transform : Transform) (n : ℕ) (result :
         part-reads = λ bs s e. (signed (m .0) (leNumber bs), refl);
         no-row-lost = λ leaf q good e r p h met. numbers-inclusive-exact column transform leaf q good e r p h .1 (inl (r, h, met));
         strict-is-safe = λ leaf q good e r p h met. numbers-strict-exact column transform leaf q good e r p h .0 met r h;
-        refusals = λ o z. numbers-refused column to transform result o z;
+        refusals = λ o z. numbers-refused six eight column to transform (λ u. seven) result Inclusive (test (binary o z));
       }
 
   row-held : (r p : Row (List ℕ)) → over-values.RowOf (ShortIn column n) (bytesPartition column transform) r p
@@ -54,5 +67,5 @@ module _ (column to : PrimitiveType) (transform : Transform) (n : ℕ) (result :
         bytes-no-row-lost column transform leaf q (all-parts column n (literalsIn leaf) good .0) e r p (row-held r p h) met;
     strict-is-safe = λ leaf q good e r p h met.
         bytes-strict-is-safe column transform leaf q (all-parts column n (literalsIn leaf) good .0) e r p (row-held r p h) met;
-    refusals = λ o s. bytes-refused column to transform result o n is s;
+    refusals = λ o s. bytes-refused six eight column to transform (λ u. seven) result n is Inclusive (test (binary o s));
   }

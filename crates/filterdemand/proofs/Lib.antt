@@ -6,7 +6,6 @@ pub mod FittedLaws
 pub mod ListedCells
 pub mod LeafSheetLaws
 pub mod LeafKindLaws
-pub mod InclusiveRefusalLaws
 pub mod BothKindsLaws
 pub mod LeafAnswerLaws
 pub mod FilterDemandProof

@@ -1,6 +1,6 @@
 -- The transform of a row: its partition value, or a refusal. The order of the lines is the order of the checks. Assumes nothing.
 use Prim.Native.Nat.{ℕ}
-use mathlib.Core.Bool.{Bool, true, false, not, _||_}
+use mathlib.Core.Bool.{Bool, true, false, not, cond, _||_}
 use mathlib.Core.List.{List}
 use mathlib.Core.Path.{_≡_, refl}
 use lib.Dec.{ltb, leb}
@@ -17,7 +17,7 @@ use Rattle.transform.specs.declared.temporal.TimeUnit.{TimeUnit}
 use Rattle.transform.specs.declared.temporal.TimeUnit.the-variants as time-unit
 use Rattle.transform.specs.Calendar.{inCalendar, yearOf, monthOf}
 use Rattle.transform.specs.Temporal.{unitOf, dayOf, hourOf}
-use Rattle.transform.specs.Truncate.{truncated, firstCodePoints}
+use Rattle.transform.specs.Truncate.{truncated, firstCodePoints, firstBytes}
 
 -- ---- whole numbers and times
 
@@ -79,15 +79,13 @@ transformNumber ty Unknown v = err FeatureUnsupported
 
 -- ---- strings and binaries
 
--- 01, 7: "Truncate of a Binary literal"
-abbrev pub truncateBytes : PrimitiveType → ℕ → List ℕ → Res (Row (List ℕ))
-truncateBytes column width s = do
-  need (sameType column String) FeatureUnsupported
-  ok (present (firstCodePoints width s))
+-- 01: "of a String, its first width code points"; 02, #102: "Truncate of a Binary is now its first width bytes". No width is refused
+abbrev pub truncateBytes : PrimitiveType → ℕ → List ℕ → List ℕ
+truncateBytes column width s = cond (sameType column String) (firstCodePoints width s) (firstBytes width s)
 
 unfoldable pub transformBytes : PrimitiveType → Transform → List ℕ → Res (Row (List ℕ))
 transformBytes ty Identity s = ok (present s)
-transformBytes ty (Truncate width) s = truncateBytes ty width s
+transformBytes ty (Truncate width) s = ok (present (truncateBytes ty width s))
 -- never met: `resultType` refuses these types with 5
 transformBytes ty Year s = err NoResultType
 transformBytes ty Month s = err NoResultType

@@ -1,5 +1,6 @@
 // The transform of a String or Binary: a choice over `Transform` where the Rust has a boxed trait object (src/transform/mod.rs).
 use crate::result::is_known;
+use transform::truncate::truncate_binary;
 use transform::truncate::truncate_str;
 use values::datatypes::PrimitiveType;
 use values::error::ErrorKind;
@@ -16,14 +17,14 @@ pub enum BytesResult {
     Err(ErrorKind),
 }
 
-// The first code points of a String; a Binary is not cut.
-fn truncate_bytes(column: PrimitiveType, width: u32, s: &[u8]) -> BytesResult
-    ensures { λ r. ⌜ r ≡ bytesResult (truncateBytes column width (now (s .entry))) ⌝ }
+// A String's first code points, a Binary's first bytes: a part of what was lent.
+pub fn truncate_bytes<'a>(column: PrimitiveType, width: u32, s: &'a [u8]) -> &'a [u8]
+    ensures { λ r. ⌜ now r ≡ truncateBytes column width (now (s .entry)) ⌝ }
 {
     if let PrimitiveType::String = column {
-        BytesResult::Prefix(truncate_str(s, width).len())
+        truncate_str(s, width)
     } else {
-        BytesResult::Err(ErrorKind::FeatureUnsupported)
+        truncate_binary(s, width)
     }
 }
 
@@ -33,7 +34,7 @@ pub fn transform_bytes_literal(column: PrimitiveType, transform: Transform, s: &
 {
     match transform {
         Transform::Identity => BytesResult::Prefix(s.len()),
-        Transform::Truncate(width) => truncate_bytes(column, width, s),
+        Transform::Truncate(width) => BytesResult::Prefix(truncate_bytes(column, width, s).len()),
         Transform::Year => BytesResult::Err(ErrorKind::NoResultType),
         Transform::Month => BytesResult::Err(ErrorKind::NoResultType),
         Transform::Day => BytesResult::Err(ErrorKind::NoResultType),

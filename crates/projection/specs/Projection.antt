@@ -6,7 +6,7 @@ use lib.IntN.{ℤ}
 use lib.ListN.{length}
 use Rattle.values.specs.Ascending.{ascending}
 use Rattle.values.specs.Order.{compareNumbers, compareBytes}
-use Rattle.values.specs.Outcomes.{Res, ok, err, need, _>>=_, _>>_}
+use Rattle.values.specs.Outcomes.{Res, ok, err, _>>=_}
 use Rattle.values.specs.Transforms.{widthOf}
 use Rattle.values.specs.Types.{sameType}
 use Rattle.values.specs.Utf8.{codePoints}
@@ -20,7 +20,7 @@ use Rattle.partition.specs.Partition.{transformNumber, transformBytes}
 use Rattle.expr.specs.Predicates.{Test, binary, set, Predicate, unary, test}
 use Rattle.projection.specs.declared.question.Question.{Question}
 use Rattle.projection.specs.declared.question.Question.the-variants.{Inclusive, Strict}
-use Rattle.projection.specs.ByteSteps.{inclusiveBytes, strictBytes}
+use Rattle.projection.specs.ByteSteps.{Step, inclusiveBytes, strictBytes}
 use Rattle.projection.specs.Lifting.{lifted, lift}
 use Rattle.projection.specs.NumberSteps.{inclusiveNumber, strictNumber}
 use Rattle.projection.specs.Steps.{Projected, some, none, mapped, literalUnder}
@@ -72,27 +72,17 @@ projectNumbers question column transform leaf = byTransform compareNumbers (numb
 
 -- ---- strings and binaries
 
--- how long a literal is: a String in code points, a Binary in bytes
+-- how long a literal is. 01: "Let n be L's code points"; of a Binary, 02: "counting bytes"
 abbrev pub lengthOf : PrimitiveType → List ℕ → ℕ
 lengthOf column s = cond (sameType column String) (length (codePoints s)) (length s)
-
--- 01, of Binary: "inclusive 207 and 208 always 7"
-abbrev pub inclusiveLength : PrimitiveType → List ℕ → Res ℕ
-inclusiveLength column s = do
-  need (sameType column String) FeatureUnsupported
-  ok (lengthOf column s)
-
--- 01, of Binary: "strict 207 and 208 as for strings, counting bytes"
-abbrev pub strictLength : PrimitiveType → List ℕ → Res ℕ
-strictLength column s = ok (lengthOf column s)
 
 module _ (column : PrimitiveType) (transform : Transform) where
   abbrev pub bytesUnder : List ℕ → Res (List ℕ)
   bytesUnder l = literalUnder (transformBytes column transform) l
 
-  abbrev pub bytesStep : Question → Test (List ℕ) → Res (Projected (Test (List ℕ)))
-  bytesStep Inclusive t = inclusiveBytes bytesUnder (inclusiveLength column) (widthOf transform) t
-  bytesStep Strict t = strictBytes bytesUnder (strictLength column) (widthOf transform) t
+  abbrev pub bytesStep : Question → Test (List ℕ) → Step
+  bytesStep Inclusive t = inclusiveBytes column bytesUnder (lengthOf column) (widthOf transform) t
+  bytesStep Strict t = strictBytes bytesUnder (lengthOf column) (widthOf transform) t
 
 unfoldable pub projectBytes : Question → PrimitiveType → Transform → Predicate (List ℕ) → Res (Projected (Predicate (List ℕ)))
 projectBytes question column transform leaf = byTransform compareBytes (bytesStep column transform question) transform leaf

@@ -1,11 +1,8 @@
 // A leaf with one String or Binary under Truncate (src/spec/transform.rs).
 use expr::operator::PredicateOperator;
-use partition::bytes::BytesResult;
-use partition::bytes::transform_bytes_literal;
+use partition::bytes::truncate_bytes;
 use projection::question::Question;
 use values::datatypes::PrimitiveType;
-use values::error::ErrorKind;
-use values::transform::Transform;
 use values::utf8::count_code_points;
 ghost use mathlib.Core.Bool.{true};
 ghost use mathlib.Core.Path.{_≡_};
@@ -17,11 +14,10 @@ ghost use Rattle.projection.specs.Projection.{lengthOf};
 ghost use Rattle.strings.specs.code.Prefixes.{bytesLeaf, bytesProjected, NoLonger, OneLiteral, truncatedLeaf, startsLeaf, notStartsLeaf};
 ghost use Rattle.projection.specs.declared.question.Question.the-variants.{Inclusive, Strict};
 
-// What such a leaf comes to: an operator with so many of the literal's first bytes, or none.
+// What such a leaf comes to: an operator with so many of the literal's first bytes, or none. Truncate refuses no byte string.
 pub enum BytesProjection {
     None,
     Prefix(PredicateOperator, usize),
-    Err(ErrorKind),
 }
 
 // A String's length is in code points, a Binary's in bytes.
@@ -47,27 +43,25 @@ fn truncate_array(
     ensures short { λ r. ⌜ NoLonger (length (now (l .entry))) r ⌝ }
     ensures one { λ r. ⌜ OneLiteral r ⌝ }
 {
-    match transform_bytes_literal(column, Transform::Truncate(width), l) {
-        BytesResult::Missing => BytesProjection::Err(ErrorKind::FeatureUnsupported),
-        BytesResult::Prefix(n) => BytesProjection::Prefix(operator, n),
-        BytesResult::Err(e) => BytesProjection::Err(e),
-    }
+    BytesProjection::Prefix(operator, truncate_bytes(column, width, l).len())
 }
 
-// StartsWith: the literal itself where the width holds it, and where it is longer T of it, or none.
+// StartsWith: a literal as long as the width has `whole`, a shorter one the leaf's own operator; a longer one has T with it, or none.
 fn project_starts_with(
     question: Question,
     column: PrimitiveType,
     width: u32,
+    whole: PredicateOperator,
     l: &[u8],
 ) -> BytesProjection
-    ensures says { λ r. ⌜ bytesProjected (now (l .entry)) r ≡ startsLeaf question column width (now (l .entry)) ⌝ }
+    requires { ⌜ takesOne (byArity whole) ≡ true ⌝ }
+    ensures says { λ r. ⌜ bytesProjected (now (l .entry)) r ≡ startsLeaf question column width (byArity whole) (now (l .entry)) ⌝ }
     ensures short { λ r. ⌜ NoLonger (length (now (l .entry))) r ⌝ }
     ensures one { λ r. ⌜ OneLiteral r ⌝ }
 {
     let n = literal_len(column, l);
     if n == width as usize {
-        return BytesProjection::Prefix(PredicateOperator::Eq, l.len());
+        return BytesProjection::Prefix(whole, l.len());
     }
     if n < width as usize {
         return BytesProjection::Prefix(PredicateOperator::StartsWith, l.len());
@@ -78,20 +72,22 @@ fn project_starts_with(
     }
 }
 
-// NotStartsWith: the opposite of that.
+// NotStartsWith alike; a longer literal has none where that of StartsWith has T, and T where it has none.
 fn project_not_starts_with(
     question: Question,
     column: PrimitiveType,
     width: u32,
+    whole: PredicateOperator,
     l: &[u8],
 ) -> BytesProjection
-    ensures says { λ r. ⌜ bytesProjected (now (l .entry)) r ≡ notStartsLeaf question column width (now (l .entry)) ⌝ }
+    requires { ⌜ takesOne (byArity whole) ≡ true ⌝ }
+    ensures says { λ r. ⌜ bytesProjected (now (l .entry)) r ≡ notStartsLeaf question column width (byArity whole) (now (l .entry)) ⌝ }
     ensures short { λ r. ⌜ NoLonger (length (now (l .entry))) r ⌝ }
     ensures one { λ r. ⌜ OneLiteral r ⌝ }
 {
     let n = literal_len(column, l);
     if n == width as usize {
-        return BytesProjection::Prefix(PredicateOperator::NotEq, l.len());
+        return BytesProjection::Prefix(whole, l.len());
     }
     if n < width as usize {
         return BytesProjection::Prefix(PredicateOperator::NotStartsWith, l.len());
@@ -102,7 +98,7 @@ fn project_not_starts_with(
     }
 }
 
-// The inclusive projection of every other operator.
+// The inclusive projection. A Binary as long as the width keeps StartsWith and NotStartsWith, where a String has Eq and NotEq.
 fn project_array(
     column: PrimitiveType,
     width: u32,
@@ -125,16 +121,24 @@ fn project_array(
         PredicateOperator::Eq => truncate_array(column, width, operator, l),
         PredicateOperator::StartsWith => {
             if let PrimitiveType::String = column {
-                project_starts_with(Question::Inclusive, column, width, l)
+                project_starts_with(Question::Inclusive, column, width, PredicateOperator::Eq, l)
             } else {
-                BytesProjection::Err(ErrorKind::FeatureUnsupported)
+                let whole = PredicateOperator::StartsWith;
+                project_starts_with(Question::Inclusive, column, width, whole, l)
             }
         }
         PredicateOperator::NotStartsWith => {
             if let PrimitiveType::String = column {
-                project_not_starts_with(Question::Inclusive, column, width, l)
+                project_not_starts_with(
+                    Question::Inclusive,
+                    column,
+                    width,
+                    PredicateOperator::NotEq,
+                    l,
+                )
             } else {
-                BytesProjection::Err(ErrorKind::FeatureUnsupported)
+                let whole = PredicateOperator::NotStartsWith;
+                project_not_starts_with(Question::Inclusive, column, width, whole, l)
             }
         }
         _ => BytesProjection::None,
@@ -162,9 +166,11 @@ fn truncate_array_strict(
             truncate_array(column, width, PredicateOperator::GreaterThan, l)
         }
         PredicateOperator::NotEq => truncate_array(column, width, operator, l),
-        PredicateOperator::StartsWith => { project_starts_with(Question::Strict, column, width, l) }
+        PredicateOperator::StartsWith => {
+            project_starts_with(Question::Strict, column, width, PredicateOperator::Eq, l)
+        }
         PredicateOperator::NotStartsWith => {
-            project_not_starts_with(Question::Strict, column, width, l)
+            project_not_starts_with(Question::Strict, column, width, PredicateOperator::NotEq, l)
         }
         _ => BytesProjection::None,
     }

@@ -32,7 +32,7 @@ use Rattle.projection.specs.Lifting.{lifted}
 use Rattle.projection.specs.laws.LiteralLaws.{Landed, lands, lift-lands, inclusive-numbers, strict-numbers, inclusive-bytes, strict-bytes}
 use Rattle.projection.specs.laws.LiftingLaws.{liftIf, returned-lifted}
 use Rattle.projection.specs.NumberSteps.{inclusiveNumber, strictNumber}
-use Rattle.projection.specs.Projection.{inclusiveLength, strictLength, numberUnder, numberStep, projectNumbers, bytesUnder, bytesStep, projectBytes}
+use Rattle.projection.specs.Projection.{lengthOf, numberUnder, numberStep, projectNumbers, bytesUnder, bytesStep, projectBytes}
 use Rattle.projection.specs.laws.RowLaws.{literal-value}
 use Rattle.projection.specs.laws.ProjectionLaws.{course}
 use Rattle.projection.specs.laws.StepLaws.{Returned, returned-weaken}
@@ -100,8 +100,8 @@ module _ (question : Question) (column : PrimitiveType) (transform : Transform) 
 
   byte-steps : (question : Question) (y : Test (List ℕ)) → AllOf g (literalsIn (test y))
       → Returned (bytesStep column transform question y) (λ q. Landed h (length (literalsIn (test y))) (test q))
-  byte-steps Inclusive y x = inclusive-bytes (bytesUnder column transform) (inclusiveLength column) (widthOf transform) g h under keeps y x
-  byte-steps Strict y x = strict-bytes (bytesUnder column transform) (strictLength column) (widthOf transform) g h under keeps y x
+  byte-steps Inclusive y x = inclusive-bytes (bytesUnder column transform) (lengthOf column) (widthOf transform) g h under keeps column y x
+  byte-steps Strict y x = strict-bytes (bytesUnder column transform) (lengthOf column) (widthOf transform) g h under keeps y x
 
   land : (leaf x : Predicate (List ℕ)) → AllOf g (literalsIn leaf) → projectBytes question column transform leaf ≡ ok (some x)
       → Landed h (length (literalsIn leaf)) x
@@ -121,13 +121,12 @@ module _ (g : List ℕ → Type 0) (begins : (s : List ℕ) (k : ℕ) → g s �
 
 -- a String's values are UTF-8 as it is
 held-to : (column to : PrimitiveType) (transform : Transform) → known transform ≡ true → resultType transform column ≡ ok to
-    → (s t : List ℕ) → (utf8 s ≡ true → utf8 t ≡ true)
-    → HeldIn column s → HeldIn to t
+    → (s t : List ℕ) → (column ≡ String → utf8 s ≡ true → utf8 t ≡ true) → HeldIn column s → HeldIn to t
 held-to column to transform n r s t k held = go (sameType to String) refl
   where
     go : (b : Bool) → sameType to String ≡ b → (not b || utf8 t) ≡ true
     go false e = refl
-    go true e = let string = string-result transform column n (rw (same-type to String e) at r) in k (rw string at held)
+    go true e = let string = string-result transform column n (rw (same-type to String e) at r) in k string (rw string at held)
 
 pub bytes-land : (question : Question) (column to : PrimitiveType) (transform : Transform) (leaf x : Predicate (List ℕ))
     → resultType transform column ≡ ok to → AllOf (HeldIn column) (literalsIn leaf) → projectBytes question column transform leaf ≡ ok (some x)
@@ -142,7 +141,7 @@ bytes-land question column to transform leaf x r fine e =
     (HeldIn column)
     (HeldIn to)
     (λ l t d k. held-to column to transform n r l t (bytes-begin column transform l t d .string) k)
-    (λ l k. held-to column to transform n r l l (λ u. u) k)
+    (λ l k. held-to column to transform n r l l (λ c u. u) k)
     leaf
     x
     fine

@@ -1,10 +1,11 @@
 -- Demand 3 over leaves, of every type, transform and width. Assumes nothing.
-use Prim.Native.Nat.{ℕ}
-use mathlib.Core.Bool.{true}
+use Prim.Native.Nat.{ℕ, _≤_}
+use mathlib.Core.Bool.{Bool, true, false, cond, not, _||_}
 use mathlib.Core.List.{List}
 use mathlib.Core.Logic.{⊎-elim}
 use mathlib.Core.Path.{_≡_, sym, ap, _∙_}
 use lib.IntN.{ℤ}
+use lib.ListN.{length}
 use lib.Signed.{_≤ℤ_}
 use Rattle.values.specs.code.Places.{AllOf}
 use Rattle.values.specs.Outcomes.{Res, ok, Row, missing, present}
@@ -12,16 +13,20 @@ use Rattle.values.specs.laws.OutcomeLaws.{ok-inj, present-inj}
 use Rattle.values.specs.Order.{compareNumbers, compareBytes}
 use Rattle.values.specs.laws.OrderLaws.{bytes-order}
 use Rattle.values.specs.laws.TestLaws.{clash}
+use Rattle.values.specs.Types.{sameType}
+use Rattle.values.specs.Utf8.{codePoints, utf8}
 use Rattle.values.specs.declared.datatypes.PrimitiveType.{PrimitiveType}
 use Rattle.values.specs.declared.datatypes.PrimitiveType.the-variants.{String}
 use Rattle.values.specs.declared.transform.Transform.{Transform}
 use Rattle.values.specs.declared.transform.Transform.the-variants.{Identity, Truncate}
-use Rattle.partition.specs.Partition.{ofRow, transformNumber, transformBytes, bytesPartition}
+use Rattle.partition.specs.Partition.{ofRow, truncateBytes, transformNumber, transformBytes, bytesPartition}
 use Rattle.partition.specs.code.PartitionAnswers.{InType}
-use Rattle.partition.specs.laws.BytesPartitionLaws.{bytes-present, bytes-missing, bytes-identity, string-truncates}
+use Rattle.partition.specs.laws.BytesPartitionLaws.{bytes-present, bytes-missing, bytes-identity, bytes-truncates}
 use Rattle.partition.specs.laws.PartitionLaws.{number-mono, number-identity, number-missing}
 use Rattle.partition.specs.laws.PartitionRowLaws.{number-rows, bytes-rows}
-use Rattle.transform.specs.Truncate.{firstCodePoints}
+use Rattle.transform.specs.Truncate.{firstCodePoints, firstBytes}
+use Rattle.transform.specs.laws.BinaryLaws.{binary-cutting}
+use Rattle.transform.specs.laws.Cutting.{Cutting}
 use Rattle.transform.specs.laws.StringLaws.{string-cutting}
 use Rattle.expr.specs.Holds.{bytesTests, meets}
 use Rattle.expr.specs.Predicates.{Test, Predicate, unary, test, literalsIn}
@@ -30,7 +35,7 @@ use Rattle.projection.specs.laws.LeafDemand.{HeldIn, StrictExact, Inclus
 use Rattle.projection.specs.Lifting.{lifted}
 use Rattle.projection.specs.laws.NumberLaws.{LiftedExact, AllExact, lifted-exact, strict-exact}
 use Rattle.projection.specs.laws.NumberRowLaws.{strict-rows, inclusive-rows, strict-unary, inclusive-unary, strict-itself, inclusive-itself}
-use Rattle.projection.specs.Projection.{through, numberUnder, numberStep, projectNumbers, bytesUnder, bytesStep, projectBytes}
+use Rattle.projection.specs.Projection.{lengthOf, through, numberUnder, numberStep, projectNumbers, bytesUnder, bytesStep, projectBytes}
 use Rattle.projection.specs.laws.ProjectionLaws.{bySteps, Course, leafItself, stepped, course}
 use Rattle.projection.specs.laws.MissingLaws.{SameMissing, number-step-missing, bytes-step-missing}
 use Rattle.projection.specs.laws.RowLaws.{literal-value, same-row}
@@ -125,26 +130,38 @@ numbers-inclusive-exact column transform leaf q fine e =
 
 -- ---- strings and binaries, of either question
 
--- Truncate of a String
-string-value : (question : Question) (w : ℕ) (x q : Test (List ℕ)) → AllOf (HeldIn String) (literalsIn (test x))
-    → bytesStep String (Truncate w) question x ≡ ok (some q)
-    → (v p : List ℕ) → HeldIn String v → transformBytes String (Truncate w) v ≡ ok (present p)
+-- Truncate cuts a String by its code points, a Binary by its bytes
+bytes-cutting : (column : PrimitiveType) (w : ℕ) → Cutting (HeldIn column) (lengthOf column) w (truncateBytes column w)
+bytes-cutting column w = go (sameType column String)
+  where
+    go : (b : Bool)
+        → Cutting (λ s. (not b || utf8 s) ≡ true) (λ s. cond b (length (codePoints s)) (length s)) w (λ s. cond b (firstCodePoints w s) (firstBytes w s))
+    go true = string-cutting w
+    go false = binary-cutting w
+
+-- a literal no longer than the width stays whole
+pub whole-stays : (column : PrimitiveType) (w : ℕ) (l : List ℕ) → lengthOf column l ≤ w → truncateBytes column w l ≡ l
+whole-stays column w l h = bytes-cutting column w .whole l h
+
+truncated-value : (question : Question) (column : PrimitiveType) (w : ℕ) (x q : Test (List ℕ)) → AllOf (HeldIn column) (literalsIn (test x))
+    → bytesStep column (Truncate w) question x ≡ ok (some q)
+    → (v p : List ℕ) → HeldIn column v → transformBytes column (Truncate w) v ≡ ok (present p)
     → Demanded question (meets bytesTests x v) (meets bytesTests q p)
-string-value question w x q fine d v p held e = rw (present-inj (ok-inj (sym e ∙ string-truncates w v))) (go question d)
+truncated-value question column w x q fine d v p held e = rw (present-inj (ok-inj (sym e ∙ bytes-truncates column w v))) (go question d)
   where
     T : List ℕ → Res (List ℕ)
-    T = bytesUnder String (Truncate w)
+    T = bytesUnder column (Truncate w)
 
-    gives : (s : List ℕ) → T s ≡ ok (firstCodePoints w s)
-    gives s = literal-value (transformBytes String (Truncate w)) s (firstCodePoints w s) .1 (string-truncates w s)
+    gives : (s : List ℕ) → T s ≡ ok (truncateBytes column w s)
+    gives s = literal-value (transformBytes column (Truncate w)) s (truncateBytes column w s) .1 (bytes-truncates column w s)
 
-    go : (question : Question) → bytesStep String (Truncate w) question x ≡ ok (some q)
-        → Demanded question (meets bytesTests x v) (meets bytesTests q (firstCodePoints w v))
-    go Inclusive d = returned (bytesStep String (Truncate w) Inclusive x) _ (follows (string-cutting w) T gives x fine) d v held
-    go Strict d = returned (bytesStep String (Truncate w) Strict x) _ (leads (string-cutting w) T gives x fine) d v held
+    go : (question : Question) → bytesStep column (Truncate w) question x ≡ ok (some q)
+        → Demanded question (meets bytesTests x v) (meets bytesTests q (truncateBytes column w v))
+    go Inclusive d = returned (bytesStep column (Truncate w) Inclusive x) _ (follows (bytes-cutting column w) T gives column x fine) d v held
+    go Strict d = returned (bytesStep column (Truncate w) Strict x) _ (leads (bytes-cutting column w) T gives x fine) d v held
 
 module _ (question : Question) (column : PrimitiveType) (transform : Transform) where
-  -- no other byte string has a partition value where projections go by steps
+  -- projections go by steps under Truncate alone
   bytes-value : bySteps transform ≡ true → (x q : Test (List ℕ)) → AllOf (HeldIn column) (literalsIn (test x))
       → bytesStep column transform question x ≡ ok (some q)
       → (v p : List ℕ) → HeldIn column v → transformBytes column transform v ≡ ok (present p)
@@ -152,7 +169,7 @@ module _ (question : Question) (column : PrimitiveType) (transform : Transform) 
   bytes-value h x q fine d v p held e =
       ⊎-elim
       (λ t. clash h (ap bySteps t))
-      (λ k. string-value question (k .0) x q (rw (k .2) at fine) (rw (k .1, k .2) at d) v p (rw (k .2) at held) (rw (k .1, k .2) at e))
+      (λ k. truncated-value question column (k .0) x q fine (rw (k .1) at d) v p held (rw (k .1) at e))
       (bytes-present column transform v p e)
 
   bytes-never : bySteps transform ≡ true → (v : List ℕ) → transformBytes column transform v ≡ ok missing → ⊥

@@ -3,6 +3,7 @@ use Prim.Native.Nat.{ℕ, _*_, _≤_}
 use native.Mathlib.Omega.{arith}
 use mathlib.Core.List.{List, [], _∷_}
 use mathlib.Core.Path.{_≡_}
+use lib.Dec.{leb}
 use lib.IntN.{ℤ, pos, negsuc, sucℤ, predℤ}
 use lib.ListN.{length}
 use lib.Signed.{_<ℤ_}
@@ -12,8 +13,9 @@ use Rattle.values.specs.laws.IntLaws.{ints}
 use Rattle.values.specs.Order.{compareNumbers, compareBytes}
 use Rattle.values.specs.Outcomes.{Res, ok, need, _>>_}
 use Rattle.values.specs.laws.OutcomeLaws.{each-length, each-all, passed}
-use Rattle.values.specs.Types.{inType}
+use Rattle.values.specs.Types.{inType, sameType}
 use Rattle.values.specs.declared.datatypes.PrimitiveType.{PrimitiveType}
+use Rattle.values.specs.declared.datatypes.PrimitiveType.the-variants.{String}
 use Rattle.values.specs.declared.error.ErrorKind.the-variants.{Overflow}
 use Rattle.values.specs.declared.order.Ordering.{Ordering}
 use Rattle.values.specs.declared.transform.Transform.{Transform}
@@ -21,12 +23,12 @@ use Rattle.values.specs.declared.transform.Transform.the-variants.{Identity}
 use Rattle.partition.specs.code.PartitionAnswers.{InType}
 use Rattle.expr.specs.Operators.{Binary, SetOperator, lessThan, lessThanOrEq, greaterThan, greaterThanOrEq, eq, notEq, startsWith, notStartsWith, isIn, notIn}
 use Rattle.expr.specs.Predicates.{Test, binary, set, Predicate, unary, test, literalsIn}
-use Rattle.projection.specs.ByteSteps.{byLength, inclusiveBytes, strictBytes}
+use Rattle.projection.specs.ByteSteps.{Step, byLength, stringStarts, stringNotStarts, binaryStarts, binaryNotStarts, inclusiveBytes, strictBytes}
 use Rattle.projection.specs.Lifting.{withNexts, lift}
 use Rattle.projection.specs.NumberSteps.{inclusiveNumber, strictNumber}
 use Rattle.projection.specs.Projection.{inOrder, through, byTransform}
 use Rattle.projection.specs.laws.ProjectionLaws.{Course, leafItself, stepped, course}
-use Rattle.projection.specs.laws.StepLaws.{Returned, returned, returned-map, returned-literal, returned-each, returned-length}
+use Rattle.projection.specs.laws.StepLaws.{Returned, returned, returned-map, returned-literal, returned-each, returned-cond, returned-length}
 use Rattle.projection.specs.Steps.{Projected, some, none, withLiteral, withEach}
 
 -- ---- any kind of value
@@ -152,7 +154,7 @@ module _ (column : PrimitiveType) (T : ℤ → Res ℤ) (h : ℤ → Type 0) (gi
   strict-numbers (set notIn ls) x = numbers notIn ls x
 
 -- ---- strings and binaries: a literal stays, or T(L) is put for it
-module _ (T : List ℕ → Res (List ℕ)) (count : List ℕ → Res ℕ) (w : ℕ) (g h : List ℕ → Type 0)
+module _ (T : List ℕ → Res (List ℕ)) (count : List ℕ → ℕ) (w : ℕ) (g h : List ℕ → Type 0)
     (gives : (l t : List ℕ) → T l ≡ ok t → g l → h t) (keeps : (l : List ℕ) → g l → h l) where
   changed : (o : Binary) (l : List ℕ) → g l → Returned (withLiteral o (T l)) (λ q. Landed h 1 (test q))
   changed o l x = one-lands compareBytes h o (T l) (λ t e. gives l t e x)
@@ -163,23 +165,29 @@ module _ (T : List ℕ → Res (List ℕ)) (count : List ℕ → Res ℕ) (w : �
   byte-sets : (o : SetOperator) (ls : List (List ℕ)) → AllOf g ls → Returned (withEach compareBytes o T ls) (λ q. Landed h (length ls) (test q))
   byte-sets o ls x = each-lands compareBytes h o T g gives ls x
 
-  starts : (o p : Binary) (l : List ℕ) (long : Res (Projected (Test (List ℕ)))) → g l → Returned long (λ q. Landed h 1 (test q))
-      → Returned (byLength count w l (some (binary o l)) (some (binary p l)) long) (λ q. Landed h 1 (test q))
+  starts : (o p : Binary) (l : List ℕ) (long : Step) → g l → Returned long (λ q. Landed h 1 (test q))
+      → Returned (byLength (count l) w (some (binary o l)) (some (binary p l)) long) (λ q. Landed h 1 (test q))
   starts o p l long x c =
-      returned-length count w l (some (binary o l)) (some (binary p l)) long (λ q. Landed h 1 (test q)) (λ n k d. kept o l x) (λ n k d. kept p l x) (λ n k d. c)
+      returned-length (count l) w (some (binary o l)) (some (binary p l)) long (λ q. Landed h 1 (test q)) (λ d. kept o l x) (λ d. kept p l x) (λ d. c)
 
-  pub inclusive-bytes : (y : Test (List ℕ)) → AllOf g (literalsIn (test y))
-      → Returned (inclusiveBytes T count w y) (λ q. Landed h (length (literalsIn (test y))) (test q))
-  inclusive-bytes (binary lessThan l) x = changed lessThanOrEq l (x .0)
-  inclusive-bytes (binary lessThanOrEq l) x = changed lessThanOrEq l (x .0)
-  inclusive-bytes (binary greaterThan l) x = changed greaterThanOrEq l (x .0)
-  inclusive-bytes (binary greaterThanOrEq l) x = changed greaterThanOrEq l (x .0)
-  inclusive-bytes (binary eq l) x = changed eq l (x .0)
-  inclusive-bytes (binary notEq l) x = tt
-  inclusive-bytes (binary startsWith l) x = starts eq startsWith l (withLiteral startsWith (T l)) (x .0) (changed startsWith l (x .0))
-  inclusive-bytes (binary notStartsWith l) x = starts notEq notStartsWith l (ok none) (x .0) tt
-  inclusive-bytes (set isIn ls) x = byte-sets isIn ls x
-  inclusive-bytes (set notIn ls) x = tt
+  pub inclusive-bytes : (column : PrimitiveType) (y : Test (List ℕ)) → AllOf g (literalsIn (test y))
+      → Returned (inclusiveBytes column T count w y) (λ q. Landed h (length (literalsIn (test y))) (test q))
+  inclusive-bytes column (binary lessThan l) x = changed lessThanOrEq l (x .0)
+  inclusive-bytes column (binary lessThanOrEq l) x = changed lessThanOrEq l (x .0)
+  inclusive-bytes column (binary greaterThan l) x = changed greaterThanOrEq l (x .0)
+  inclusive-bytes column (binary greaterThanOrEq l) x = changed greaterThanOrEq l (x .0)
+  inclusive-bytes column (binary eq l) x = changed eq l (x .0)
+  inclusive-bytes column (binary notEq l) x = tt
+  inclusive-bytes column (binary startsWith l) x =
+      returned-cond (sameType column String) (stringStarts T count w l) (binaryStarts T l) (λ q. Landed h 1 (test q))
+      (starts eq startsWith l (withLiteral startsWith (T l)) (x .0) (changed startsWith l (x .0)))
+      (changed startsWith l (x .0))
+  inclusive-bytes column (binary notStartsWith l) x =
+      returned-cond (sameType column String) (stringNotStarts T count w l) (binaryNotStarts T count w l) (λ q. Landed h 1 (test q))
+      (starts notEq notStartsWith l (ok none) (x .0) tt)
+      (returned-cond (leb (count l) w) (withLiteral notStartsWith (T l)) (ok none) (λ q. Landed h 1 (test q)) (changed notStartsWith l (x .0)) tt)
+  inclusive-bytes column (set isIn ls) x = byte-sets isIn ls x
+  inclusive-bytes column (set notIn ls) x = tt
 
   pub strict-bytes : (y : Test (List ℕ)) → AllOf g (literalsIn (test y))
       → Returned (strictBytes T count w y) (λ q. Landed h (length (literalsIn (test y))) (test q))

@@ -12,7 +12,7 @@ use Rattle.values.specs.declared.order.Ordering.{Ordering}
 use Rattle.expr.specs.laws.HoldsLaws.{opposite, oppositeSet}
 use Rattle.expr.specs.Operators.{Binary, SetOperator, oppositeBinary}
 use Rattle.expr.specs.Predicates.{Test, binary, set}
-use Rattle.projection.specs.ByteSteps.{byLength}
+use Rattle.projection.specs.ByteSteps.{Step, byLength}
 use Rattle.projection.specs.Steps.{Projected, some, none, mapped, withLiteral, withEach}
 
 -- ---- what is said of a predicate, where one is returned
@@ -57,36 +57,31 @@ returned-each {B = B} compare o T ls g k = go (each T ls) k
     go (ok ts) k = k ts refl
     go (err e) k = tt
 
+-- a choice
+pub returned-cond : {P : Type 0} (b : Bool) (r s : Res (Projected P)) (g : P → Type 0) → Returned r g → Returned s g → Returned (cond b r s) g
+returned-cond true r s g x y = x
+returned-cond false r s g x y = y
+
 -- a choice by a literal's length against the width
-module _ (count : List ℕ → Res ℕ) (w : ℕ) (l : List ℕ) (whole short : Projected (Test (List ℕ))) (long : Res (Projected (Test (List ℕ)))) where
-  pub returned-length : (g : Test (List ℕ) → Type 0) → ((n : ℕ) → count l ≡ ok n → n ≡ w → Returned (ok whole) g)
-      → ((n : ℕ) → count l ≡ ok n → n < w → Returned (ok short) g) → ((n : ℕ) → count l ≡ ok n → w ≤ n → Returned long g)
-      → Returned (byLength count w l whole short long) g
-  returned-length g a b c = go (count l) refl
+module _ (n w : ℕ) (whole short : Projected (Test (List ℕ))) (long : Step) where
+  pub returned-length : (g : Test (List ℕ) → Type 0) → (n ≡ w → Returned (ok whole) g) → (n < w → Returned (ok short) g) → (w ≤ n → Returned long g)
+      → Returned (byLength n w whole short long) g
+  returned-length g a b c = go (eqb n w) refl (ltb n w) refl
     where
-      choice : (n : ℕ) → count l ≡ ok n → (s : Bool) → eqb n w ≡ s → (t : Bool) → ltb n w ≡ t → Returned (cond s (ok whole) (cond t (ok short) long)) g
-      choice n k true d t e = a n k (eqb-true n w d)
-      choice n k false d true e = b n k (ltb-true n w e)
-      choice n k false d false e = c n k (ltb-false n w e)
+      go : (s : Bool) → eqb n w ≡ s → (t : Bool) → ltb n w ≡ t → Returned (cond s (ok whole) (cond t (ok short) long)) g
+      go true d t e = a (eqb-true n w d)
+      go false d true e = b (ltb-true n w e)
+      go false d false e = c (ltb-false n w e)
 
-      go : (r : Res ℕ) → count l ≡ r → Returned (r >>= λ n. cond (eqb n w) (ok whole) (cond (ltb n w) (ok short) long)) g
-      go (ok n) k = choice n k (eqb n w) refl (ltb n w) refl
-      go (err e) k = tt
-
-  pub opposite-length : (byLength count w l whole short long >>= λ q. ok (mapped opposite q))
-      ≡ byLength count w l (mapped opposite whole) (mapped opposite short) (long >>= λ q. ok (mapped opposite q))
-  opposite-length = go (count l)
+  pub opposite-length : (byLength n w whole short long >>= λ q. ok (mapped opposite q))
+      ≡ byLength n w (mapped opposite whole) (mapped opposite short) (long >>= λ q. ok (mapped opposite q))
+  opposite-length = go (eqb n w) (ltb n w)
     where
-      choice : (s t : Bool) → (cond s (ok whole) (cond t (ok short) long) >>= λ q. ok (mapped opposite q))
+      go : (s t : Bool) → (cond s (ok whole) (cond t (ok short) long) >>= λ q. ok (mapped opposite q))
           ≡ cond s (ok (mapped opposite whole)) (cond t (ok (mapped opposite short)) (long >>= λ q. ok (mapped opposite q)))
-      choice true t = refl
-      choice false true = refl
-      choice false false = refl
-
-      go : (r : Res ℕ) → ((r >>= λ n. cond (eqb n w) (ok whole) (cond (ltb n w) (ok short) long)) >>= λ q. ok (mapped opposite q))
-          ≡ (r >>= λ n. cond (eqb n w) (ok (mapped opposite whole)) (cond (ltb n w) (ok (mapped opposite short)) (long >>= λ q. ok (mapped opposite q))))
-      go (ok n) = choice (eqb n w) (ltb n w)
-      go (err e) = refl
+      go true t = refl
+      go false true = refl
+      go false false = refl
 
 -- ---- the opposite of an answer
 pub opposite-literal : {B : Type 0} (o : Binary) (r : Res B) → (withLiteral o r >>= λ q. ok (mapped opposite q)) ≡ withLiteral (oppositeBinary o) r

@@ -29,9 +29,13 @@ module _ {p : ErrorKind → Type 0} where
   pub only-err : {A : Type 0} {e : ErrorKind} → p e → Only {A = A} p (err e)
   only-err {A} {e} h = record { only = λ f q. let same : e ≡ f = cc in subst p same h }
 
+  -- a step after another, with what the first gave
+  pub only-then : {A B : Type 0} (r : Res A) (f : A → Res B) → Only p r → ((x : A) → r ≡ ok x → Only p (f x)) → Only p (r >>= f)
+  only-then (ok x) f h k = k x refl
+  only-then (err e) f h k = only-err (h .only e refl)
+
   pub only-bind : {A B : Type 0} (r : Res A) (f : A → Res B) → Only p r → ((x : A) → Only p (f x)) → Only p (r >>= f)
-  only-bind (ok x) f h k = k x
-  only-bind (err e) f h k = only-err (h .only e refl)
+  only-bind r f h k = only-then r f h (λ x e. k x)
 
   pub only-need : {B : Type 0} (b : Bool) (e : ErrorKind) (r : Res B) → p e → Only p r → Only p (need b e >> r)
   only-need true e r h k = k

@@ -6,16 +6,16 @@ use lib.Seq.{length-take-le}
 use denote.Ref.{now}
 use Prim.Native.Nat.{_≤_}
 use borrow.Author.Needs.{needs}
-use Rattle.answers.proofs.BytesAnswers.{projected-refused, beginning-there, projected-written}
+use Rattle.answers.proofs.BytesAnswers.{beginning-there, projected-written}
 use Rattle.answers.proofs.string.put_projection.Statement.{statement}
 use Rattle.answers.proofs.string.put_projection.Tie as tie
 
 -- the beginning is no longer than the literal
-short : (c : tie.After-p2) → c .p2 .given .0 .1 .0 ≤ length (now (c .before .before .before .before .args .l))
+short : (c : tie.After-p) → c .p .given .0 .1 .0 ≤ length (now (c .before .before .before .before .args .l))
 short c =
     let s = c .before .before .before .before in
     let a = s .args in
-    beginning-there (a .to) (a .p) (now (a .l)) (now (a .out)) (c .p2 .given .0 .0) (c .p2 .given .0 .1 .0) (c .p2 .given .1) (s .pre .0)
+    beginning-there (a .to) (a .p) (now (a .l)) (now (a .out)) (c .p .given .0 .0) (c .p .given .0 .1 .0) (c .p .given .1) (s .pre .0)
 
 slice-aggregate-put-one-string : tie.Need-slice-aggregate-put-one-string
 slice-aggregate-put-one-string c =
@@ -26,17 +26,11 @@ put-one-string-requires : tie.Need-put-one-string-requires
 put-one-string-requires c κs =
     let k = c .before .before .before in
     let s = k .before .before .before .before in
-    let size = length-take-le (k .p2 .given .0 .1 .0) (now (s .args .l)) (short k) in
+    let size = length-take-le (k .p .given .0 .1 .0) (now (s .args .l)) (short k) in
     (omega (arith, s .pre .1 .1 .1), omega (arith, size, short k, s .pre .1 .1 .0))
 
 returns-2 : tie.Need-returns-2
 returns-2 c =
-    let k = c .before in
-    let a = k .before .before .before .before .args in
-    projected-refused (a .to) (a .p) (now (a .l)) (now (a .out)) (k .p .given .0 .0) (k .p .given .1)
-
-returns-3 : tie.Need-returns-3
-returns-3 c =
     let w = c .before .before in
     let k = w .before .before .before .before in
     let s = k .before .before .before .before in
@@ -46,9 +40,9 @@ returns-3 c =
     (a .p)
     (now (a .l))
     (now (a .out))
-    (k .p2 .given .0 .0)
-    (k .p2 .given .0 .1 .0)
-    (k .p2 .given .1)
+    (k .p .given .0 .0)
+    (k .p .given .0 .1 .0)
+    (k .p .given .1)
     (s .pre .1 .0)
     (short k)
     (s .pre .1 .1 .0)
@@ -60,11 +54,9 @@ put-projection-spec =
     (tie.spec
     (search needs)
     (search needs)
-    (search needs)
     slice-aggregate-put-one-string
     put-one-string-requires
     (search needs)
     (λ c. search needs)
-    returns-2
     (search needs)
-    returns-3)
+    returns-2)

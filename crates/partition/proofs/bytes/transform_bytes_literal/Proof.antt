@@ -1,6 +1,6 @@
 -- `partition::bytes::transform_bytes_literal` meets its contract. Assumes nothing.
 use Rattle.partition.specs.Partition.{transformBytes}
-use Rattle.partition.proofs.BytesArms.{bytes-arm}
+use Rattle.partition.proofs.BytesArms.{bytes-arm, cut-arm}
 use borrow.Author.Needs.{needs}
 use Rattle.partition.proofs.bytes.transform_bytes_literal.Statement.{statement}
 use Rattle.partition.proofs.bytes.transform_bytes_literal.Tie as tie
@@ -20,7 +20,7 @@ transform-bytes-literal-spec =
     (search needs)
     (search needs)
     (λ c. search bytes-arm)
-    (λ c. search bytes-arm)
+    (λ c. search cut-arm)
     (λ c. search bytes-arm)
     (λ c. search bytes-arm)
     (λ c. search bytes-arm)

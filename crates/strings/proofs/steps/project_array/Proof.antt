@@ -14,12 +14,12 @@ use Rattle.strings.proofs.steps.project_array.Tie as tie
 
 returns-7 : tie.Need-returns-7
 returns-7 c =
-    let other = other-type (c .before .before .before .before .args .column) String (c .match2 .keys2) refl in
+    let other = other-type (c .before .before .before .before .before .args .column) String (c .before .match2 .keys2) refl in
     search beginnings
 
 returns-9 : tie.Need-returns-9
 returns-9 c =
-    let other = other-type (c .before .before .before .before .args .column) String (c .match3 .keys2) refl in
+    let other = other-type (c .before .before .before .before .before .args .column) String (c .before .match3 .keys2) refl in
     search beginnings
 
 returns-10 : tie.Need-returns-10
@@ -51,6 +51,8 @@ project-array-spec =
     (λ c κs. search (hands-on, needs))
     (search needs)
     (λ c κs. search (hands-on, needs))
+    (search needs)
+    (search needs)
     (search needs)
     (search needs)
     (search needs)

@@ -5,13 +5,4 @@ use Rattle.strings.proofs.steps.truncate_array.Statement.{statement}
 use Rattle.strings.proofs.steps.truncate_array.Tie as tie
 
 pub truncate-array-spec : {M : Type 1} → statement M
-truncate-array-spec =
-    tie.close
-    (tie.spec
-    (search needs)
-    (search needs)
-    (search needs)
-    (search needs)
-    (λ c. search truncated)
-    (λ c. search truncated)
-    (λ c. search truncated))
+truncate-array-spec = tie.close (tie.spec (search needs) (λ c. search truncated))
