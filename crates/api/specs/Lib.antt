@@ -2,5 +2,6 @@
 pub mod HoldsTest
 pub mod Routines
 pub mod Demand3
+pub mod UnknownAlone
 pub mod Requests
 pub mod laws

@@ -1,4 +1,4 @@
--- The proof of demand 3 over bytes: that the demand is about something, what it rests on, and the theorem; and what steps refuse with.
+-- The proof of demand 3 over bytes: that the demand is about something, what it rests on, and the theorem; and that 7 is Unknown's alone.
 pub mod RecordBytes
 pub mod Witnesses
 pub mod ReadBackLaws
@@ -10,3 +10,4 @@ pub mod BytesKindLaws
 pub mod Demand3Proof
 pub mod BufferLaws
 pub mod StepRefusalLaws
+pub mod UnknownProof

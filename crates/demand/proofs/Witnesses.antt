@@ -1,29 +1,31 @@
--- Demand 3 is about something: for each of its clauses a sheet, a row, its partition value and an answer sheet that meet what the clause asks.
--- Assumes nothing.
+-- Demand 3 is about something: for each of its clauses a sheet, a row, its partition value and an answer sheet that meet what the clause asks; for the two on
+-- losing and letting in, also those of a Binary column. Assumes nothing.
 use Prim.Native.Nat.{ℕ}
 use native.Mathlib.Omega.{arith}
 use mathlib.Core.List.{List, [], _∷_}
-use mathlib.Core.Path.{refl}
+use mathlib.Core.Path.{_≡_, refl}
 use lib.IntN.{ℤ, pos, negsuc}
+use Rattle.values.specs.Characters.{ascii}
 use Rattle.values.specs.laws.IntLaws.{lt-true}
-use Rattle.values.specs.Order.{compareNumbers}
+use Rattle.values.specs.Order as order
+use Rattle.values.specs.Order.{compareNumbers, compareBytes}
 use Rattle.values.specs.Outcomes.{present}
 use Rattle.values.specs.Transforms.{transformOf}
 use Rattle.values.specs.Types.{inType}
 use Rattle.values.specs.Words.{signedBytes}
-use Rattle.values.specs.declared.datatypes.PrimitiveType.the-variants.{Int, Date}
+use Rattle.values.specs.declared.datatypes.PrimitiveType.the-variants.{Int, Date, Binary}
 use Rattle.values.specs.declared.transform.Transform.the-variants.{Year}
 use Rattle.transform.specs.Calendar.{inCalendar, shift, civilYear, yearOf}
 use Rattle.transform.specs.Count.{countOff}
 use Rattle.transform.specs.Floor.{floorDiv, floorMod}
 use Rattle.transform.specs.Gregorian.{leap, yearLength, cycleYear, yearAt}
-use Rattle.partition.specs.Partition.{transformNumber, partition, numberPartition}
+use Rattle.partition.specs.Partition.{transformNumber, transformBytes, partition, numberPartition, bytesPartition}
 use Rattle.partition.specs.ResultType.{resultType}
 use Rattle.transform.specs.Temporal.{dayOf}
-use Rattle.transform.specs.Truncate.{truncated}
-use Rattle.expr.specs.Operators.{lessThanOrEq, lessThan, isIn}
+use Rattle.transform.specs.Truncate.{truncated, firstBytes}
+use Rattle.expr.specs.Operators.{lessThanOrEq, lessThan, startsWith, notStartsWith, isIn}
 use Rattle.expr.specs.Predicates.{test, binary, set}
-use Rattle.projection.specs.Projection.{projectNumbers}
+use Rattle.projection.specs.Projection.{projectNumbers, projectBytes}
 use Rattle.projection.specs.declared.question.Question.the-variants.{Inclusive, Strict}
 use Rattle.sheet.specs.Records.{content, value}
 use Rattle.sheet.specs.Sheets.{head, sheet, fields}
@@ -34,7 +36,7 @@ use Rattle.answers.specs.Answers.{projectedLeaf, transformedRow}
 use Rattle.api.specs.Requests.{sheetOf, valueOf}
 use Rattle.api.specs.Routines.{projectSheet, transformValue}
 use Rattle.demand.proofs.RecordBytes.{record-bytes}
-use Rattle.api.specs.Demand3.{Returns, Accepts, RowOf, Numeric, Lifts, OneAbove}
+use Rattle.api.specs.Demand3.{typeIn, Returns, Accepts, RowOf, Numeric, Lifts, OneAbove}
 
 abbrev int : ℤ → List ℕ
 int z = signedBytes 4 z
@@ -121,3 +123,44 @@ one-above =
 pub one-above-asks : (s q v p : List ℕ) × Numeric s × RowOf s p v × Returns Inclusive s q × Accepts q p × Lifts s × OneAbove s p
 one-above-asks =
     (lastOf1969, bothYears, nought, nought, omega arith, rows-of-years .0, years-returned, years-accepted .1, lifts, one-above)
+
+-- ---- a Binary under Truncate 2: of the leaf StartsWith "abc" the row "abcd", its partition value "ab" and the predicate StartsWith "ab"; of NotStartsWith "abc"
+-- strictly NotStartsWith "ab", and the row 62 80 00, which is no UTF-8, with its partition value 62 80
+abbrev abc : List ℕ
+abc = ascii "abc"
+
+abbrev startsAbc : List ℕ
+startsAbc = sheetOf 207 10 1 2 (abc ∷ [])
+
+abbrev startsAb : List ℕ
+startsAb = answerSheet Binary (test (binary startsWith (ascii "ab")))
+
+abbrev notStartsAbc : List ℕ
+notStartsAbc = sheetOf 208 10 1 2 (abc ∷ [])
+
+abbrev notStartsAb : List ℕ
+notStartsAb = answerSheet Binary (test (binary notStartsWith (ascii "ab")))
+
+abbrev noText : List ℕ
+noText = valueOf (0x62 ∷ 0x80 ∷ 0 ∷ [])
+
+abbrev noTextPart : List ℕ
+noTextPart = valueOf (0x62 ∷ 0x80 ∷ [])
+
+binary-rows : RowOf startsAbc (valueOf (ascii "ab")) (valueOf (ascii "abcd")) × RowOf notStartsAbc noTextPart noText
+unfolding transformValue head transformOf value content transformedRow resultType bytesPartition partition transformBytes firstBytes
+binary-rows = (refl, refl)
+
+binary-returned : Returns Inclusive startsAbc startsAb × Returns Strict notStartsAbc notStartsAb
+unfolding projectSheet sheet fields head transformOf content projectedLeaf resultType projectBytes transformBytes firstBytes answerSheet
+binary-returned = (refl, refl)
+
+binary-accepted : Accepts startsAbc (valueOf (ascii "abcd")) × Accepts notStartsAb noTextPart
+unfolding holdsTest sheet fields head transformOf value content testedSheet compareBytes order.startsWith answerSheet
+binary-accepted = (refl, refl)
+
+pub binary-no-row-lost-asks : (s q v p : List ℕ) × (typeIn s ≡ 10) × RowOf s p v × Accepts s v × Returns Inclusive s q
+binary-no-row-lost-asks = (startsAbc, startsAb, valueOf (ascii "abcd"), valueOf (ascii "ab"), refl, binary-rows .0, binary-accepted .0, binary-returned .0)
+
+pub binary-strict-is-safe-asks : (s q v p : List ℕ) × (typeIn s ≡ 10) × RowOf s p v × Returns Strict s q × Accepts q p
+binary-strict-is-safe-asks = (notStartsAbc, notStartsAb, noText, noTextPart, refl, binary-rows .1, binary-returned .1, binary-accepted .1)

@@ -5,6 +5,7 @@ use mathlib.Core.List.{List, [], _∷_, _++_, map, List·Memᴰ as Isin}
 use mathlib.Core.Path.{_≡_}
 use Rattle.values.specs.Outcomes.{Res, ok, err, errorNumber}
 use Rattle.values.specs.Words.{field, AllBytes}
+use Rattle.values.specs.declared.error.ErrorKind.the-variants.{FeatureUnsupported}
 use Rattle.expr.specs.Operators.{operatorNumber, operatorOf, one}
 use Rattle.projection.specs.Steps.{Projected, some, none}
 use Rattle.projection.specs.declared.question.Question.{Question}
@@ -14,6 +15,7 @@ use Rattle.api.specs.Demand3.{typeIn, transformIn, widthIn, RowOf}
 use Rattle.api.specs.HoldsTest.{holdsTest}
 use Rattle.api.specs.Requests.{sheetOf}
 use Rattle.api.specs.Routines.{projectSheet}
+use Rattle.api.specs.UnknownAlone.{unknown}
 use Rattle.columns.specs.Cells.{rows, parts, Cell, cellsOf}
 use Rattle.columns.specs.Columns.{nameSize, entryAt}
 use Rattle.grammar.specs.Filters.{Filter, leaf, either, both, opposite, bracket}
@@ -83,3 +85,18 @@ pub record FiltersLoseNothing : Type 0 where
   pub strict-is-safe : FilterStrictIsSafe
   pub one-leaf-row : OneLeafRow
   pub one-leaf-parts : OneLeafParts
+
+-- ---- 02, #102: "7 is left for Unknown". A row gives no 7 (`FilterAnswerLaws.row-answers`)
+
+-- list, values and text are read, and a column that a leaf names has Unknown
+pub record NamesUnknown (c t p : List ℕ) : Type 0 where
+  pub cells : List Cell
+  pub part-cells : cellsOf parts c p ≡ ok cells
+  pub filter : Filter Leaf
+  pub found : filterIn (map (λ x. x .column) cells) t ≡ ok filter
+  pub place : ℕ
+  pub named : Isin place (placesIn filter)
+  pub is-unknown : transformIn (headAt c place) ≡ unknown
+
+abbrev pub FilterSevenIsUnknown : Type 0
+FilterSevenIsUnknown = (question : Question) (c t p : List ℕ) → filterParts question c t p ≡ err FeatureUnsupported → NamesUnknown c t p

@@ -36,11 +36,11 @@ use Rattle.filterdemand.proofs.JoinedLaws.{Follows, follows-kept, answe
 use Rattle.filterdemand.proofs.LeafAnswerLaws.{leaf-sound, leaf-returned}
 use Rattle.filterdemand.proofs.LeafSheetLaws.{held-whole, numbers, heldTransform, sheet-back}
 
-abbrev columnsOf : List Cell → List Column
+abbrev pub columnsOf : List Cell → List Column
 columnsOf cells = map (λ x. x .column) cells
 
 -- ---- what is so of the places that a filter names is so of its leaves' places
-named-every : (g : ℕ → Type 0) (f : Filter Leaf) → ((k : ℕ) → Isin k (placesIn f) → g k) → EveryLeaf (λ l. g (l .place)) f
+pub named-every : (g : ℕ → Type 0) (f : Filter Leaf) → ((k : ℕ) → Isin k (placesIn f) → g k) → EveryLeaf (λ l. g (l .place)) f
 named-every g (leaf l) h = h (l .place) (here refl)
 named-every g (either f f') h = (named-every g f (λ k m. h k (isin-left (placesIn f') m)), named-every g f' (λ k m. h k (isin-right (placesIn f) m)))
 named-every g (both f f') h = (named-every g f (λ k m. h k (isin-left (placesIn f') m)), named-every g f' (λ k m. h k (isin-right (placesIn f) m)))
@@ -48,12 +48,12 @@ named-every g (opposite f) h = named-every g f h
 named-every g (bracket f) h = named-every g f h
 
 -- every leaf that is found is fitted
-all-fitted : (cs : List Column) (t : List ℕ) (f : Filter Leaf) → filterIn cs t ≡ ok f → EveryLeaf (Fitted cs) f
+pub all-fitted : (cs : List Column) (t : List ℕ) (f : Filter Leaf) → filterIn cs t ≡ ok f → EveryLeaf (Fitted cs) f
 all-fitted cs t f e = filter-every cs (Fitted cs) (λ name o l x d. leaf-fitted name o l x cs d) t f e
 
 -- ---- a fitted leaf: its head, and its column's value
 module _ (side : Side) (c v : List ℕ) (cells : List Cell) (e : cellsOf side c v ≡ ok cells) (l : Leaf) (f : Fitted (columnsOf cells) l) where
-  leaf-head : let h = headAt c (l .place) in head (typeIn h) (transformIn h) (widthIn h) ≡ ok (l .head)
+  pub leaf-head : let h = headAt c (l .place) in head (typeIn h) (transformIn h) (widthIn h) ≡ ok (l .head)
   leaf-head = column-head side c v cells e (l .place) (f .column) (f .there) ∙ ap ok (f .head-is)
 
   -- the column, as the leaf has its head

@@ -9,7 +9,9 @@ use Rattle.values.specs.laws.OutcomeLaws.{ok-inj, going, gone}
 use Rattle.values.specs.laws.TestLaws.{or-cases, or-left, or-right, and-both, both-and}
 use Rattle.values.specs.declared.error.ErrorKind.{ErrorKind}
 use Rattle.grammar.specs.Filters.{Filter, leaf, either, both, opposite, bracket, Turned, one, any, all, straight, turned, joined, answered}
+use Rattle.sheet.specs.laws.RefusalLaws.{Only}
 use Rattle.filter.specs.FilterDemand.{Kept}
+use Rattle.filter.specs.laws.FilterAnswerLaws.{joined-only}
 
 -- ---- what is so of every leaf
 abbrev pub EveryLeaf : {L : Type 0} → (L → Type 0) → Filter L → Type 0
@@ -51,6 +53,12 @@ module _ {L : Type 0} (g : L → Type 0) where
   every-both g' (both f f') h k = (every-both g' f (h .0) (k .0), every-both g' f' (h .1) (k .1))
   every-both g' (opposite f) h k = every-both g' f h k
   every-both g' (bracket f) h k = every-both g' f h k
+
+-- ---- what every leaf is refused with, the whole is
+pub answered-only : {L : Type 0} {p : ErrorKind → Type 0} (ask : L → Res Bool) (f : Turned L) → EveryTurned (λ l. Only p (ask l)) f → Only p (answered ask f)
+answered-only ask (one l) h = h
+answered-only ask (any f g) h = joined-only _||_ (answered ask f) (answered ask g) (answered-only ask f (h .0)) (answered-only ask g (h .1))
+answered-only ask (all f g) h = joined-only _&&_ (answered ask f) (answered ask g) (answered-only ask f (h .0)) (answered-only ask g (h .1))
 
 -- ---- inclusive: the second answer is yes where the first is, and its refusals are 6 to 8
 abbrev pub Refusal : ErrorKind → Type 0

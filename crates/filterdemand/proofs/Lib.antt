@@ -1,4 +1,4 @@
--- The proof that filters lose nothing: that it is about something, what it rests on, and the theorem.
+-- The proof that filters lose nothing: that it is about something, what it rests on, and the theorem; and that 7 is Unknown's alone.
 pub mod FilterWitnesses
 pub mod JoinedLaws
 pub mod FoundLaws
@@ -9,3 +9,4 @@ pub mod LeafKindLaws
 pub mod BothKindsLaws
 pub mod LeafAnswerLaws
 pub mod FilterDemandProof
+pub mod FilterUnknownProof

@@ -13,3 +13,4 @@ pub mod SoundLaws
 pub mod LeafDemandLaws
 pub mod LiteralLaws
 pub mod LandingLaws
+pub mod UnchangedLaws

@@ -32,43 +32,43 @@ use Rattle.leaves.specs.Symbols.{symbols}
 use Rattle.ask.specs.LeafAnswers.{rowAt, sheetOf, rowAnswer}
 use Rattle.filter.specs.FilterRoutines.{textLimit, leafLimit, bracketLimit, whole, filterIn, turn, filterRow, filterParts}
 
--- ---- what a row's filter is refused with
-abbrev Refusal : ErrorKind → Type 0
-Refusal e = let n = errorNumber e in (n ≡ 3) ⊎ ((n ≡ 4) ⊎ ((n ≡ 9) ⊎ (n ≡ 10)))
+-- ---- what list, values and text are refused with, and so a row's filter
+abbrev pub ReadRefusal : ErrorKind → Type 0
+ReadRefusal e = let n = errorNumber e in (n ≡ 3) ⊎ ((n ≡ 4) ⊎ ((n ≡ 9) ⊎ (n ≡ 10)))
 
-three : Refusal Malformed
+three : ReadRefusal Malformed
 three = inl refl
 
-four : Refusal NotUtf8
+four : ReadRefusal NotUtf8
 four = inr (inl refl)
 
-nine : Refusal OutsideGrammar
+nine : ReadRefusal OutsideGrammar
 nine = inr (inr (inl refl))
 
-ten : Refusal TooLarge
+ten : ReadRefusal TooLarge
 ten = inr (inr (inr refl))
 
 wider : {A : Type 0} {p q : ErrorKind → Type 0} {r : Res A} → ((e : ErrorKind) → p e → q e) → Only p r → Only q r
 wider f h = record { only = λ e d. f e (h .only e d) }
 
 -- ---- 3 and 4: the list and the values
-list-only : (c : List ℕ) → Only Refusal (columns c)
+list-only : (c : List ℕ) → Only ReadRefusal (columns c)
 list-only c = wider (λ e is. inl (ap errorNumber is)) (columns-only c)
 
 module _ (side : Side) where
-  values-only : (v : List ℕ) (k : ℕ) (cs : List Column) → Only Refusal (cellsFrom side v k cs)
+  values-only : (v : List ℕ) (k : ℕ) (cs : List Column) → Only ReadRefusal (cellsFrom side v k cs)
   values-only v k [] = only-ok
   values-only v k (c ∷ cs) =
       let l = layout (typeOf side c) in
       only-bind (value l (recordAt v k)) _ (wider (λ e is. inl (ap errorNumber is)) (value-only l (recordAt v k))) (λ r.
       only-bind (cellsFrom side v (suc k) cs) _ (values-only v (suc k) cs) (λ cells. only-ok))
 
-  cell-only : (x : Cell) → Only Refusal (readCell side x)
+  cell-only : (x : Cell) → Only ReadRefusal (readCell side x)
   cell-only x =
       let type = typeOf side (x .column) in
       rw (bytes-row type (x .row)) (only-need (not (sameType type String) || rowUtf8 (x .row)) NotUtf8 _ four only-ok)
 
-  cells-only : (c v : List ℕ) → Only Refusal (cellsOf side c v)
+  pub cells-only : (c v : List ℕ) → Only ReadRefusal (cellsOf side c v)
   unfolding cellsOf
   cells-only c v =
       only-bind (columns c) _ (list-only c) (λ cs.
@@ -77,12 +77,12 @@ module _ (side : Side) where
       only-bind (each (readCell side) cells) _ (only-each (readCell side) cell-only cells) (λ read. only-ok))))
 
 -- ---- 9 and 10: the text
-whole-only : (r : Found Leaf) → Only Refusal (whole r)
+whole-only : (r : Found Leaf) → Only ReadRefusal (whole r)
 whole-only (found f []) = only-ok
 whole-only (found f (y ∷ ys)) = only-err nine
 whole-only nothing = only-err nine
 
-text-only : (cs : List Column) (t : List ℕ) → Only Refusal (filterIn cs t)
+pub text-only : (cs : List Column) (t : List ℕ) → Only ReadRefusal (filterIn cs t)
 unfolding filterIn
 text-only cs t =
     let read = disjunction (suc (length (symbols cs t))) (symbols cs t) in
@@ -91,26 +91,26 @@ text-only cs t =
     only-need (leb (leaves f) leafLimit) TooLarge _ ten (only-need (leb (depth f) bracketLimit) TooLarge _ ten only-ok)))
 
 -- ---- the leaves: the holds-test gives 3 and 4 only
-leaf-only : (cells : List Cell) (l : Leaf) → Only Refusal (rowAnswer cells l)
+leaf-only : (cells : List Cell) (l : Leaf) → Only ReadRefusal (rowAnswer cells l)
 unfolding rowAnswer
 leaf-only cells l =
     let x = sheetOf l in
     let row = rowAt cells (l .place) in
     rw (tested-held x row) (wider among (held-only (x .head .column) (byArity (operatorIn (x .leaf))) (literalsIn (x .leaf)) row))
   where
-    among : (e : ErrorKind) → tests.Refusal e → Refusal e
+    among : (e : ErrorKind) → tests.Refusal e → ReadRefusal e
     among e (inl is) = inl (ap errorNumber is)
     among e (inr is) = inr (inl (ap errorNumber is))
 
-joined-only : (join : Bool → Bool → Bool) (a b : Res Bool) → Only Refusal a → Only Refusal b → Only Refusal (joined join a b)
+pub joined-only : {p : ErrorKind → Type 0} (join : Bool → Bool → Bool) (a b : Res Bool) → Only p a → Only p b → Only p (joined join a b)
 joined-only join a b h k = only-bind a _ h (λ x. only-bind b _ k (λ y. only-ok))
 
-answer-only : (ask : Leaf → Res Bool) → ((l : Leaf) → Only Refusal (ask l)) → (f : Turned Leaf) → Only Refusal (answered ask f)
+answer-only : (ask : Leaf → Res Bool) → ((l : Leaf) → Only ReadRefusal (ask l)) → (f : Turned Leaf) → Only ReadRefusal (answered ask f)
 answer-only ask h (one l) = h l
 answer-only ask h (any f g) = joined-only _||_ (answered ask f) (answered ask g) (answer-only ask h f) (answer-only ask h g)
 answer-only ask h (all f g) = joined-only _&&_ (answered ask f) (answered ask g) (answer-only ask h f) (answer-only ask h g)
 
-row-only : (c t v : List ℕ) → Only Refusal (filterRow c t v)
+row-only : (c t v : List ℕ) → Only ReadRefusal (filterRow c t v)
 unfolding filterRow
 row-only c t v =
     only-bind (cellsOf rows c v) _ (cells-only rows c v) (λ cells.
@@ -122,7 +122,7 @@ pub row-answers : (c t v : List ℕ)
     → let n = heldNumber (heldAs (filterRow c t v)) in (n ≡ 0) ⊎ ((n ≡ 1) ⊎ ((n ≡ 3) ⊎ ((n ≡ 4) ⊎ ((n ≡ 9) ⊎ (n ≡ 10)))))
 row-answers c t v = go (filterRow c t v) (row-only c t v)
   where
-    go : (r : Res Bool) → Only Refusal r
+    go : (r : Res Bool) → Only ReadRefusal r
         → let n = heldNumber (heldAs r) in (n ≡ 0) ⊎ ((n ≡ 1) ⊎ ((n ≡ 3) ⊎ ((n ≡ 4) ⊎ ((n ≡ 9) ⊎ (n ≡ 10)))))
     go (ok true) h = inl refl
     go (ok false) h = inr (inl refl)
