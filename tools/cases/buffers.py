@@ -30,13 +30,14 @@ def buffers(cases):
     values = [
         (INT, TRUNCATE, 10, value_record(INT, -1)),  # 0
         (STRING, IDENTITY, 0, value_record(STRING, b"z" * CONTENT)),  # 0
+        (BINARY, TRUNCATE, 1, value_record(BINARY, b"ab")),  # 0
         (LONG, VOID, 0, value_record(LONG, 5)),  # 0
         (INT, IDENTITY, 0, b""),  # 3
         (0, IDENTITY, 0, value_record(INT, 0)),  # 3
         (STRING, UNKNOWN, 0, value_record(STRING, b"\xff")),  # 4
         (TIME, DAY, 0, value_record(TIME, 0)),  # 5
         (TS, YEAR, 0, value_record(TS, far)),  # 6
-        (BINARY, TRUNCATE, 1, value_record(BINARY, b"ab")),  # 7
+        (BINARY, UNKNOWN, 0, value_record(BINARY, b"ab")),  # 7
         (INT, TRUNCATE, 0, value_record(INT, 0)),  # 8
     ]
     for value, lent in itertools.product(values, (0, VALUE_ROOM - 1, VALUE_ROOM, VALUE_ROOM + 1, SHEET_ROOM)):

@@ -37,6 +37,7 @@ GROUPS = {
     29: "filters: every operator, type and transform",
     30: "filters: at random",
     31: "filters: one byte damaged",
+    32: "lots kept as Binary",
 }
 HEADER, INPUTS = struct.Struct("<BBBBBxIHHHHH"), 3
 

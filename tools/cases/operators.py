@@ -72,7 +72,7 @@ def every_text(cases):
                 cases.both(11, leaf(operator, column, [text], TRUNCATE, width))
         others = itertools.cycle(itertools.product(texts, (*range(4), CONTENT, 2**32 - 1)))
         for operator in (LT, LE, GT, GE, EQ, NOT_EQ, *SETS):
-            for _ in range(5 if column == STRING else 2):
+            for _ in range(5):
                 text, width = next(others)
                 next(others)
                 cases.both(11, leaf(operator, column, literals_for(operator, [text, b"a"]), TRUNCATE, width))

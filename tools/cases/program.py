@@ -23,7 +23,6 @@ LINES = [
     (leaf(GE, TS, [2**63 - 1], YEAR), "6", "6"),
     (leaf(GT, TS, [2**63 - 1], YEAR), "8", "6"),
     (leaf(EQ, INT, [5], UNKNOWN), "7", "7"),
-    (leaf(STARTS, BINARY, [b"a"], TRUNCATE, 1), "7", "0 205 61"),
     (leaf(LT, INT, [-2147483640], TRUNCATE, 10), "8", "0 201 -2147483640"),
     (leaf(IS_NULL, STRING, [], VOID), "1", "1"),
     (leaf(EQ, INT, [15], TRUNCATE, 10), "0 205 10", "1"),
@@ -47,6 +46,7 @@ LINES = [
     (leaf(IN, STRING, [b"z", b"", b"-"]), "0 301 - 2d 7a", "0 301 - 2d 7a"),
     (leaf(GT, STRING, [b"abc"], TRUNCATE, 0), "0 204 -", "0 203 -"),
     (leaf(EQ, BINARY, [b"\x00\x0f\xf0\xff"]), "0 205 000ff0ff", "0 205 000ff0ff"),
+    (leaf(STARTS, BINARY, [b"a"], TRUNCATE, 1), "0 207 61", "0 205 61"),
     # the longest sheet, and one that is too long
     (leaf(IS_NULL, INT).ljust(LARGEST_SHEET, b"\0"), "0 101", "0 101"),
     (leaf(IS_NULL, INT).ljust(LARGEST_SHEET + 1, b"\0"), "3", "3"),

@@ -83,12 +83,12 @@ CLOCK = [
     (-1, -1, (-1, -1, -1, -1)),  # 1969-12-31T23:59:59
 ]
 TRUNCATED = [
-    (INT, 10, 1, 0, 0),
-    (INT, 10, -1, 0, -10),
-    (LONG, 10, 1, 0, 0),
-    (LONG, 10, -1, 0, -10),
-    (STRING, 3, b"iceberg", 0, b"ice"),
-    (BINARY, 3, b"\x01\x02\x03\x04\x05", 7, None),  # published as 01 02 03; 01 keeps the crate's refusal
+    (INT, 10, 1, 0),
+    (INT, 10, -1, -10),
+    (LONG, 10, 1, 0),
+    (LONG, 10, -1, -10),
+    (STRING, 3, b"iceberg", b"ice"),
+    (BINARY, 3, b"\x01\x02\x03\x04\x05", b"\x01\x02\x03"),
 ]
 
 
@@ -99,5 +99,5 @@ def published_values(cases):
                 told_value(cases, 10, column, transform, 0, seconds * PER_SECOND[column], 0, figure)
             if transform != HOUR:
                 told_value(cases, 10, DATE, transform, 0, days, 0, figure)
-    for column, width, value, number, figure in TRUNCATED:
-        told_value(cases, 10, column, TRUNCATE, width, value, number, figure)
+    for column, width, value, figure in TRUNCATED:
+        told_value(cases, 10, column, TRUNCATE, width, value, 0, figure)

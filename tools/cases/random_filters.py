@@ -19,7 +19,7 @@ def random_pair(rng):
     return rng.choice((
         *4 * [rng.choice(NUMBER_PAIRS)],
         *3 * [(rng.choice(TYPES), IDENTITY)],
-        *2 * [(STRING, TRUNCATE)],
+        *2 * [(rng.choice((STRING, BINARY)), TRUNCATE)],
         (rng.choice((STRING, BINARY)), IDENTITY),
         (rng.choice(TYPES), rng.choice((VOID, *TRANSFORMS))),
     ))

@@ -87,8 +87,9 @@ def refusals(cases):
         (DATE, YEAR, 0, LAST_DAY + 1),
         (TS, MONTH, 0, (FIRST_DAY * per_day(TS)) - 1),
         (TS, HOUR, 0, 2**63 - 2),
-        (BINARY, TRUNCATE, 1, b"ab"),
+        # texts, which no width refuses
         (STRING, TRUNCATE, 0, b"ab"),
+        (BINARY, TRUNCATE, 0, b"ab"),
     ):
         for operator in (IS_NULL, *ONE_LITERAL, *SETS):
             cases.both(15, leaf(operator, column, literals_for(operator, [literal, literal]), transform, width))

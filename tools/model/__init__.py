@@ -1,4 +1,5 @@
-"""model: document 01, and document 02's filters, in Python, from their text alone; it shares nothing with the crates.
+"""model: document 01, with document 02's filters and Binaries, in Python, from their text alone; it shares nothing with the
+crates.
 
 `holds`, `project` and `transform` are the routines: bytes in, document 01's number and the result's bytes out (none after any
 number but 0). `filter_row` and `filter_project` are those of filters, which write nothing. `printed` is program `weighpick`,

@@ -49,11 +49,11 @@ def text_steps(strict, operator, column, width, literals, t):
 
 
 def prefix_steps(strict, operator, column, width, l, t):
-    need(column != BINARY or strict, 7)
+    """A literal as long as the width is compared whole, but for a Binary's inclusive question: 02 keeps its operator."""
     n = len(l) if column == BINARY else len(l.decode("utf-8"))
-    if n == width:
+    if n == width and (strict or column != BINARY):
         return EQ if operator == STARTS else NOT_EQ, [l]
-    if n < width:
+    if n <= width:
         return operator, [l]
     if (operator == STARTS) == strict:
         return None

@@ -56,7 +56,8 @@ def months_of(column, v):
 def truncated(column, width, v):
     if column == STRING:
         return v.decode("utf-8")[:width].encode("utf-8")
-    need(column != BINARY, 7)
+    if column == BINARY:
+        return v[:width]
     need(column != INT or width in I32, 6)
     need(width != 0, 8)
     cut = v - v % width
