@@ -15,6 +15,10 @@ use crate::types::{self, SECONDS_PER_DAY, is_number, is_transformed, per_second}
 const ALPHABET: [char; 6] = ['a', 'b', 'é', '\u{301}', '€', '😀'];
 /// The longest of those strings, in code points; with 4 bytes each, its bytes are this many times 4.
 const MOST_CODE_POINTS: usize = 3;
+/// Bytes of the Binaries that are all tried: some that are UTF-8 alone, some only beside others, and one that never is.
+const BYTES: [u8; 6] = [0x00, b'a', 0x80, 0xa9, 0xc3, 0xff];
+/// The longest of those Binaries, in bytes.
+const MOST_BYTES: usize = 4;
 /// Where no literal is transformed, one edge out of so many is tried.
 const UNTRANSFORMED: usize = 25;
 /// Small numbers, and small widths, that are all tried.
@@ -32,9 +36,10 @@ pub const UTF8_EDGES: [u8; 24] = [
 pub type Part = (&'static str, fn(&mut Comparison));
 
 /// The parts, in order; those of `every_sheet` follow.
-pub const PARTS: [Part; 7] = [
+pub const PARTS: [Part; 8] = [
     ("every operator, type, transform and edge", every_edge),
     ("every short string", every_short_string),
+    ("every short Binary", every_short_binary),
     ("every small number", every_small_number),
     ("every small set", every_small_set),
     ("transforms of every edge", every_edge_transformed),
@@ -51,7 +56,7 @@ pub fn edge_contents(column: u8) -> Vec<Vec<u8>> {
     if is_number(column) {
         return edges::numbers(column).into_iter().map(|number| types::content(column, number)).collect();
     }
-    let mut found = strings(2, &edges::CODE_POINTS);
+    let mut found = strings(2, &encoded(&edges::CODE_POINTS));
     found.extend(
         ["a", "é", "€", "😀", "\u{7ff}a"].iter().flat_map(|text| [CONTENT - 1, CONTENT].map(|n| filled(text, n))),
     );
@@ -66,15 +71,21 @@ fn filled(text: &str, bytes: usize) -> Vec<u8> {
     text.repeat(bytes / text.len()).into_bytes()
 }
 
-/// Every string of up to `most` code points of an alphabet.
-fn strings(most: usize, alphabet: &[char]) -> Vec<Vec<u8>> {
-    let mut found = vec![String::new()];
+/// Every string of up to `most` letters of an alphabet.
+fn strings(most: usize, alphabet: &[Vec<u8>]) -> Vec<Vec<u8>> {
+    let mut found = vec![Vec::new()];
     let mut longest = found.clone();
     for _ in 0..most {
-        longest = longest.iter().flat_map(|start| alphabet.iter().map(move |next| format!("{start}{next}"))).collect();
+        let longer = |start: &Vec<u8>| alphabet.iter().map(|next| [&start[..], next].concat()).collect::<Vec<_>>();
+        longest = longest.iter().flat_map(longer).collect();
         found.extend(longest.clone());
     }
-    found.into_iter().map(String::into_bytes).collect()
+    found
+}
+
+/// Code points as bytes.
+fn encoded(alphabet: &[char]) -> Vec<Vec<u8>> {
+    alphabet.iter().map(|code_point| code_point.to_string().into_bytes()).collect()
 }
 
 fn widths(transform: u8) -> &'static [u32] {
@@ -110,11 +121,22 @@ fn every_operator(comparison: &mut Comparison, column: u8, transform: u8, width:
 }
 
 fn every_short_string(comparison: &mut Comparison) {
-    let texts = strings(MOST_CODE_POINTS, &ALPHABET);
+    let texts = strings(MOST_CODE_POINTS, &encoded(&ALPHABET));
     let most_bytes = MOST_CODE_POINTS as u32 * char::MAX.len_utf8() as u32;
     for width in 0..=most_bytes + 1 {
         every_operator(comparison, column::STRING, transform::TRUNCATE, width, &texts);
         every_operator(comparison, column::BINARY, transform::TRUNCATE, width, &texts);
+    }
+}
+
+/// Binaries are cut anywhere, inside of a code point too.
+fn every_short_binary(comparison: &mut Comparison) {
+    let binaries = strings(MOST_BYTES, &BYTES.map(|byte| vec![byte]));
+    for width in 0..=MOST_BYTES as u32 + 1 {
+        every_operator(comparison, column::BINARY, transform::TRUNCATE, width, &binaries);
+        for content in &binaries {
+            transformed(comparison, column::BINARY, transform::TRUNCATE, width, &Value::Present(content.clone()));
+        }
     }
 }
 
@@ -146,6 +168,7 @@ fn every_small_set(comparison: &mut Comparison) {
     for width in SMALL_WIDTHS {
         every_subset(comparison, column::INT, transform::TRUNCATE, width, &numbers);
         every_subset(comparison, column::STRING, transform::TRUNCATE, width, &texts);
+        every_subset(comparison, column::BINARY, transform::TRUNCATE, width, &texts);
     }
 }
 

@@ -47,6 +47,7 @@ fn pair_sheets() -> Vec<Vec<u8>> {
         sheet_of(&leaf(operator::NOT_IN, column::TIMESTAMP, transform::DAY, 0, &moments)),
         sheet_of(&leaf(operator::IN, column::STRING, transform::TRUNCATE, 1, &texts)),
         sheet_of(&leaf(operator::NOT_IN, column::BINARY, transform::IDENTITY, 0, &texts)),
+        sheet_of(&leaf(operator::NOT_IN, column::BINARY, transform::TRUNCATE, 1, &texts)),
         sheet_of(&leaf(operator::STARTS_WITH, column::STRING, transform::TRUNCATE, 2, &texts[..1])),
     ]
 }

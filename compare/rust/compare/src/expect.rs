@@ -72,7 +72,7 @@ pub fn transformed(column: u8, transform: u8, width: u32, read: &Result<Value, u
         Ok(value) => {
             let ruled = content(value).and_then(|content| {
                 let rule = rules::for_value(column, transform, content)?;
-                Some((rule, result_record(specification::transformed(column, transform, content))))
+                Some((rule, result_record(specification::transformed(column, transform, width, content))))
             });
             Expected::decided(transformed_of_crate(column, transform, width, value), ruled)
         }

@@ -3,8 +3,8 @@
 
 use beside::leaf::{Leaf, Question, column, operator, transform};
 
-use crate::specification::{Prefix, is_in, moments, partition, prefix, second};
-use crate::types::{self, SECONDS_PER_DAY, per_second};
+use crate::specification::{Prefix, is_in, is_longer, moments, partition, prefix, second};
+use crate::types::{self, SECONDS_PER_DAY};
 
 /// The differences, apart by how their inputs are named.
 #[derive(Clone, Copy, Debug, PartialEq, Eq, PartialOrd, Ord)]
@@ -18,10 +18,13 @@ pub enum Rule {
     Hour,
     /// StartsWith and NotStartsWith under Truncate: the width counts code points.
     CodePoints,
+    /// Truncate of a Binary, of a value and wherever a leaf's steps need it: the crate does not support it.
+    Binary,
 }
 
 impl Rule {
-    pub const ALL: [Rule; 5] = [Rule::DayMicros, Rule::DayNanos, Rule::DaySet, Rule::Hour, Rule::CodePoints];
+    pub const ALL: [Rule; 6] =
+        [Rule::DayMicros, Rule::DayNanos, Rule::DaySet, Rule::Hour, Rule::CodePoints, Rule::Binary];
 
     pub fn name(self) -> &'static str {
         match self {
@@ -30,6 +33,7 @@ impl Rule {
             Rule::DaySet => "Day before 1970, sets",
             Rule::Hour => "Hour beyond 32 bits",
             Rule::CodePoints => "prefix counted in code points",
+            Rule::Binary => "Truncate of a Binary",
         }
     }
 }
@@ -39,22 +43,30 @@ pub fn for_leaf(question: Question, leaf: &Leaf) -> Option<Rule> {
     match (leaf.transform, leaf.column) {
         (transform::DAY | transform::HOUR, column::TIMESTAMP..=column::TIMESTAMPTZ_NS) => for_moments(question, leaf),
         (transform::TRUNCATE, column::STRING) => for_prefix(question, leaf),
+        (transform::TRUNCATE, column::BINARY) => is_cut(question, leaf).then_some(Rule::Binary),
         _ => None,
     }
 }
 
 /// The rule that the transform of a present value comes under, if any.
 pub fn for_value(column: u8, transform: u8, content: &[u8]) -> Option<Rule> {
-    per_second(column)?;
-    let moment = types::number(content).into();
-    match transform {
-        transform::DAY => day_departs(column, moment).then(|| day_rule(column)),
-        transform::HOUR => hour_departs(column, moment).then_some(Rule::Hour),
+    match (transform, column) {
+        (transform::DAY | transform::HOUR, column::TIMESTAMP..=column::TIMESTAMPTZ_NS) => {
+            for_moment(column, transform, types::number(content).into())
+        }
+        (transform::TRUNCATE, column::BINARY) => Some(Rule::Binary),
         _ => None,
     }
 }
 
 // ---- Day and Hour of the four timestamps
+
+fn for_moment(column: u8, transform: u8, moment: i128) -> Option<Rule> {
+    match transform {
+        transform::HOUR => hour_departs(column, moment).then_some(Rule::Hour),
+        _ => day_departs(column, moment).then(|| day_rule(column)),
+    }
+}
 
 /// A rule is about the moments that reach T, so the inputs that it names move with L-1 and L+1. A moment that left the
 /// type does not reach T: there port and crate both answer 8.
@@ -106,9 +118,24 @@ fn for_prefix(question: Question, leaf: &Leaf) -> Option<Rule> {
     (code_points < bytes && shows).then_some(Rule::CodePoints)
 }
 
+// ---- Binaries under Truncate
+
+/// Whether the crate's steps cut a literal, for which it answers 7. The inclusive question cuts a prefix whatever its
+/// length is, the strict one that of NotStartsWith alone, where it is longer than the width.
+fn is_cut(question: Question, leaf: &Leaf) -> bool {
+    use Question::{Inclusive, Strict};
+    match (question, leaf.operator) {
+        (Inclusive, operator::LESS..=operator::EQ | operator::STARTS_WITH | operator::NOT_STARTS_WITH)
+        | (Strict, operator::LESS..=operator::GREATER_EQ | operator::NOT_EQ) => true,
+        (Strict, operator::NOT_STARTS_WITH) => is_longer(leaf),
+        (Inclusive, operator::IN) | (Strict, operator::NOT_IN) => !leaf.literals.is_empty(),
+        _ => false,
+    }
+}
+
 #[cfg(test)]
 mod tests {
-    use beside::leaf::Value;
+    use beside::leaf::{Answer, Value, number};
 
     use super::*;
     use crate::specification::{answer, transformed};
@@ -126,7 +153,7 @@ mod tests {
         assert_eq!(named(-86_400_999_999), Some(Rule::DayMicros));
         assert_eq!(named(-86_401_000_000), None);
         assert_eq!(named(-2), None);
-        let is = transformed(column::TIMESTAMP, transform::DAY, &(-86_400_000_002_i64).to_le_bytes());
+        let is = transformed(column::TIMESTAMP, transform::DAY, 0, &(-86_400_000_002_i64).to_le_bytes());
         assert_eq!(is.value, Some(Value::Present((-2_i32).to_le_bytes().to_vec())));
     }
 
@@ -160,5 +187,62 @@ mod tests {
             assert_eq!(found, Some((operator, vec![accented.clone()])));
         }
         assert_eq!(for_leaf(Question::Inclusive, &leaf(3)), None);
+    }
+
+    fn binary(operator: u16, width: u32, literals: &[&[u8]]) -> Leaf {
+        let literals = literals.iter().map(|literal| literal.to_vec()).collect();
+        Leaf { operator, column: column::BINARY, transform: transform::TRUNCATE, width, literals }
+    }
+
+    /// What the rule gives for a leaf of Binaries, under both questions; none where there is no rule.
+    fn given(operator: u16, width: u32, literals: &[&[u8]]) -> [Option<Answer>; 2] {
+        let leaf = binary(operator, width, literals);
+        [Question::Inclusive, Question::Strict]
+            .map(|question| for_leaf(question, &leaf).map(|_| answer(question, &leaf)))
+    }
+
+    fn predicate(operator: u16, literals: &[&[u8]]) -> Option<Answer> {
+        let literals = literals.iter().map(|literal| literal.to_vec()).collect();
+        Some(Answer { number: number::WRITTEN, predicate: Some((operator, literals)) })
+    }
+
+    /// Document 02's "abc", which "abx" doesn't start with, at width 2; and shorter ones and those of the width.
+    #[test]
+    fn binary_prefixes() {
+        let (starts, not) = (operator::STARTS_WITH, operator::NOT_STARTS_WITH);
+        let none = Some(Answer::without(number::NONE));
+        assert_eq!(given(starts, 2, &[b"abc"]), [predicate(starts, &[b"ab"]), None]);
+        assert_eq!(given(not, 2, &[b"abc"]), [none, predicate(not, &[b"ab"])]);
+        for literal in [&b"ab"[..], b"a", b""] {
+            assert_eq!(given(starts, 2, &[literal]), [predicate(starts, &[literal]), None]);
+            assert_eq!(given(not, 2, &[literal]), [predicate(not, &[literal]), None]);
+        }
+    }
+
+    /// The comparisons, at width 0 and with a cut inside of "é".
+    #[test]
+    fn binary_comparisons() {
+        for (width, cut) in [(0, &b""[..]), (1, b"\xc3"), (2, b"\xc3\xa9"), (3, b"\xc3\xa9")] {
+            let given = |operator| given(operator, width, &["é".as_bytes()]);
+            let is = |operator| predicate(operator, &[cut]);
+            assert_eq!(given(operator::LESS), [is(operator::LESS_EQ), is(operator::LESS)]);
+            assert_eq!(given(operator::LESS_EQ), [is(operator::LESS_EQ), is(operator::LESS)]);
+            assert_eq!(given(operator::GREATER), [is(operator::GREATER_EQ), is(operator::GREATER)]);
+            assert_eq!(given(operator::GREATER_EQ), [is(operator::GREATER_EQ), is(operator::GREATER)]);
+            assert_eq!(given(operator::EQ), [is(operator::EQ), None]);
+            assert_eq!(given(operator::NOT_EQ), [None, is(operator::NOT_EQ)]);
+            let value = transformed(column::BINARY, transform::TRUNCATE, width, "é".as_bytes());
+            assert_eq!(value.value, Some(Value::Present(cut.to_vec())));
+        }
+    }
+
+    /// Sets lose what coincides; empty ones need no cut.
+    #[test]
+    fn binary_sets() {
+        let (set, cut): ([&[u8]; 3], [&[u8]; 2]) = ([b"b\xff", b"a", b"b\0"], [b"a", b"b"]);
+        assert_eq!(given(operator::IN, 1, &set), [predicate(operator::IN, &cut), None]);
+        assert_eq!(given(operator::NOT_IN, 1, &set), [None, predicate(operator::NOT_IN, &cut)]);
+        assert_eq!(given(operator::IN, 1, &[]), [None, None]);
+        assert_eq!(given(operator::NOT_IN, 1, &[]), [None, None]);
     }
 }

@@ -6,7 +6,6 @@
 use std::collections::BTreeMap;
 use std::io;
 
-use beside::crate_side;
 use beside::leaf::{LITERALS, Leaf, Question, SHEET_BUFFER, VALUE_BUFFER, Value, column, number, operator, transform};
 use beside::sheet::{sheet_of, value_record};
 
@@ -34,10 +33,10 @@ const OTHER_VALUES: usize = 2;
 /// Literals of a set in the sample, but for the few full ones, and the width of those.
 const MOST: usize = 8;
 const FULL_WIDTH: u32 = 10;
-/// Inputs for each rule and routine, and how many such there are: the two of Day and Hour have three routines, sets of
-/// days and prefixes no transform of one value.
+/// Inputs for each rule and routine, and how many such there are: each rule has three routines, but sets of days and
+/// prefixes no transform of one value.
 const RULED: usize = 20;
-const RULED_KINDS: usize = 13;
+const RULED_KINDS: usize = 3 * Rule::ALL.len() - 2;
 
 /// How many inputs a rule has for a routine.
 type Found = BTreeMap<(Rule, u8), usize>;
@@ -100,14 +99,15 @@ impl Sample {
             (column::TIMESTAMP, transform::DAY, operator::IN),
             (column::TIMESTAMPTZ_NS, transform::MONTH, operator::NOT_IN),
             (column::BINARY, transform::IDENTITY, operator::IN),
+            (column::BINARY, transform::TRUNCATE, operator::NOT_IN),
         ];
         for (column, transform, operator) in kinds {
             let width = if transform == transform::TRUNCATE { FULL_WIDTH } else { 0 };
             let mut literals = Vec::new();
             while literals.len() < LITERALS {
                 let content = self.draw.content(column, transform, width);
-                let value = Value::Present(content.clone());
-                if crate_side::transform(column, transform, width, &value).number == number::WRITTEN {
+                let asked = Asked { column, transform, width, value: Value::Present(content.clone()) };
+                if answer_to(&asked).answer.number == number::WRITTEN {
                     literals.push(content);
                 }
             }

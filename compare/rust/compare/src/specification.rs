@@ -1,5 +1,6 @@
-//! What the specification gives on the inputs that a rule is about (`rules`): Day and Hour of timestamps, and prefixes
-//! under Truncate. The answers are worked out from document 01's steps, in 128 bits and without asking the port.
+//! What the specification gives on the inputs that a rule is about (`rules`): Day and Hour of timestamps, prefixes under
+//! Truncate, and Truncate of a Binary. The answers are worked out from the papers' steps, in 128 bits and without asking
+//! the port.
 
 use std::cmp::Ordering;
 use std::collections::BTreeSet;
@@ -11,16 +12,21 @@ use crate::types::{self, SECONDS_PER_DAY, SECONDS_PER_HOUR, per_second};
 
 /// The answer to a leaf that a rule is about.
 pub fn answer(question: Question, leaf: &Leaf) -> Answer {
-    match leaf.transform {
-        transform::TRUNCATE => prefix_answer(question, leaf),
+    match (leaf.transform, leaf.column) {
+        (transform::TRUNCATE, column::BINARY) => binary_answer(question, leaf),
+        (transform::TRUNCATE, _) => prefix_answer(question, leaf),
         _ => moments_answer(question, leaf).unwrap_or_else(Answer::without),
     }
 }
 
 /// The transform of a value that a rule is about.
-pub fn transformed(column: u8, transform: u8, content: &[u8]) -> Transformed {
-    match partition(column, transform, types::number(content).into()) {
-        Ok(value) => Transformed { number: number::WRITTEN, value: Some(Value::Present(result(value))) },
+pub fn transformed(column: u8, transform: u8, width: u32, content: &[u8]) -> Transformed {
+    let partition = match transform {
+        transform::TRUNCATE => Ok(first_bytes(content, width)),
+        _ => partition(column, transform, types::number(content).into()).map(result),
+    };
+    match partition {
+        Ok(content) => Transformed { number: number::WRITTEN, value: Some(Value::Present(content)) },
         Err(number) => Transformed::without(number),
     }
 }
@@ -132,4 +138,31 @@ fn prefix_answer(question: Question, leaf: &Leaf) -> Answer {
     };
     let kept: String = text.chars().take(width).collect();
     Answer { number: number::WRITTEN, predicate: Some((operator, vec![kept.into_bytes()])) }
+}
+
+// ---- Binaries under Truncate
+
+/// Document 02's "its first width bytes".
+fn first_bytes(content: &[u8], width: u32) -> Vec<u8> {
+    content.iter().take(width as usize).copied().collect()
+}
+
+/// Whether a leaf has a literal of more bytes than the width.
+pub fn is_longer(leaf: &Leaf) -> bool {
+    leaf.literals.iter().any(|literal| literal.len() > leaf.width as usize)
+}
+
+/// Document 02's lines on inclusive StartsWith and NotStartsWith, and for the rest document 01's on strings.
+fn binary_answer(question: Question, leaf: &Leaf) -> Answer {
+    use Question::{Inclusive, Strict};
+    let operator = match (question, leaf.operator) {
+        (Inclusive, operator::NOT_STARTS_WITH) if is_longer(leaf) => return Answer::without(number::NONE),
+        (Inclusive, operator::LESS | operator::LESS_EQ) => operator::LESS_EQ,
+        (Inclusive, operator::GREATER | operator::GREATER_EQ) => operator::GREATER_EQ,
+        (Strict, operator::LESS | operator::LESS_EQ) => operator::LESS,
+        (Strict, operator::GREATER | operator::GREATER_EQ) => operator::GREATER,
+        (_, kept) => kept,
+    };
+    let literals: BTreeSet<Vec<u8>> = leaf.literals.iter().map(|literal| first_bytes(literal, leaf.width)).collect();
+    Answer { number: number::WRITTEN, predicate: Some((operator, literals.into_iter().collect())) }
 }

@@ -1,21 +1,19 @@
 //! The plain parser and the port asked the same, before anything is timed: texts that document 02's sentences turn on,
-//! drawn ones, and damaged copies of those, each with several rows; and column lists and values that are broken.
+//! leaves over Binaries, drawn filters and damaged copies of those, each with several rows; and column lists and values
+//! that are broken.
 
 use std::collections::BTreeMap;
 
 use sheets::draw::Draw;
-use sheets::filter::{Asked, BRACKETS, COLUMNS, Column, ENTRY, LEAVES, NAME, TEXT, column_list};
-use sheets::leaf::{CONTENT, RECORD, Value, column, number, transform};
+use sheets::filter::{Asked, COLUMNS, Column, ENTRY, NAME, column_list};
+use sheets::leaf::{RECORD, Value, column, number, transform};
 use sheets::port;
 use sheets::sheet::{COLUMN, TRANSFORM};
 
-use crate::writer::{EXAMPLE, GRAMS, LOT, filter, int, long, records, string};
+use crate::texts::{drawn, listed, of_binaries};
+use crate::writer::{EXAMPLE, GRAMS, LOT, int, long, records, string};
 
 const ASKED: [Asked; 3] = [Asked::Row, Asked::Inclusive, Asked::Strict];
-/// Texts that are drawn for each column list; of each there is a damaged copy.
-const DRAWN: usize = 200;
-/// Leaves of a drawn text: some have too many.
-const MOST_LEAVES: u64 = LEAVES as u64 + 4;
 
 /// Columns that a leaf is refused for, and others that no step is needed for.
 const REFUSED: [Column; COLUMNS] = [
@@ -29,15 +27,24 @@ const REFUSED: [Column; COLUMNS] = [
     Column { name: "h", column: column::LONG, transform: transform::IDENTITY, width: 0 },
 ];
 
+/// Binaries, cut before, at and behind the ends of literals, and uncut.
+const BINARIES: [Column; 6] = [
+    Column { name: "p", column: column::BINARY, transform: transform::TRUNCATE, width: 0 },
+    Column { name: "q", column: column::BINARY, transform: transform::TRUNCATE, width: 1 },
+    Column { name: "r", column: column::BINARY, transform: transform::TRUNCATE, width: 2 },
+    Column { name: "s", column: column::BINARY, transform: transform::TRUNCATE, width: 4 },
+    Column { name: "t", column: column::BINARY, transform: transform::TRUNCATE, width: u32::MAX },
+    Column { name: "u", column: column::BINARY, transform: transform::IDENTITY, width: 0 },
+];
+
 /// The other types, of rows alone: the plain parser has no steps for their transforms.
-const OTHERS: [Column; COLUMNS] = [
+const OTHERS: [Column; COLUMNS - 1] = [
     Column { name: "i", column: column::DATE, transform: transform::MONTH, width: 0 },
     Column { name: "j", column: column::TIME, transform: transform::IDENTITY, width: 0 },
     Column { name: "k", column: column::TIMESTAMP, transform: transform::DAY, width: 0 },
     Column { name: "l", column: column::TIMESTAMPTZ, transform: transform::YEAR, width: 0 },
     Column { name: "m", column: column::TIMESTAMP_NS, transform: transform::HOUR, width: 0 },
     Column { name: "n", column: column::TIMESTAMPTZ_NS, transform: transform::DAY, width: 0 },
-    Column { name: "o", column: column::BINARY, transform: transform::TRUNCATE, width: 2 },
     Column { name: "abcdefghijklmnop", column: column::BINARY, transform: transform::IDENTITY, width: 0 },
 ];
 
@@ -65,109 +72,23 @@ pub fn compare_answers() {
     for text in drawn(&mut draw, &OTHERS) {
         let mut values: Vec<Value> = (0..6).map(|_| Value::Present(draw.moment())).collect();
         values[0] = Value::Present(draw.date());
-        values.extend([Value::Present(draw.short_start()), string("abcd")]);
+        values.push(string("abcd"));
         compared.ask(&[Asked::Row], &column_list(&OTHERS), &text, &records(&values));
     }
+    binaries(&mut compared, &mut draw);
     broken(&mut compared, &mut draw);
     compared.report();
 }
 
-/// Texts that a sentence of document 02 turns on. The columns are `lot` and `grams`.
-fn listed() -> Vec<Vec<u8>> {
-    let read = [
-        EXAMPLE,
-        "grams<1and grams<2",
-        "grams startswith1",
-        "lot startswith'x'",
-        "not(grams<1)",
-        "not not grams<1",
-        "  ( ( grams  <=  -0 ) )  ",
-        "grams < 1 or grams < 2 and not grams < 3 or lot = ''",
-        "not grams >= -2147483640",
-        "not grams < -2147483640",
-        "grams > 2147483647 or grams >= -2147483648",
-        "grams = 2147483647 and grams != 0000000000000000000000000000007",
-        "lot = 'AB\t \u{e9}()<'",
-        "lot startswith 'éééé'",
-        "lot startswith 'ééééé' or not lot startswith 'ééééé'",
-        "not lot startswith 'abcd' and lot != 'abcde'",
-    ];
-    let outside = [
-        "",
-        " ",
-        "()",
-        "grams",
-        "grams <",
-        "grams < 1 grams < 2",
-        "grams < 1 and",
-        "and grams < 1",
-        "(grams < 1",
-        "grams < 1)",
-        "grams < = 1",
-        "grams == 1",
-        "grams <> 1",
-        "grams ! = 1",
-        "grams < - 1",
-        "grams < +1",
-        "grams < 1.5",
-        "grams < -",
-        "grams < 2147483648",
-        "grams < -2147483649",
-        "grams < 9223372036854775808",
-        "grams < '1'",
-        "lot < 1",
-        "lot = 'a",
-        "nota < 1",
-        "lotstartswith 'a'",
-        "Lot = 'a'",
-        "lot\t= 'a'",
-        "other < 1",
-        "not",
-        "lot startswith not",
-    ];
-    let mut texts: Vec<Vec<u8>> = read.iter().chain(&outside).map(|text| text.as_bytes().to_vec()).collect();
-    for nested in [BRACKETS, BRACKETS + 1] {
-        let (open, close) = ("(".repeat(nested), ")".repeat(nested));
-        texts.push(format!("{open}grams < 1{close}").into_bytes());
-        texts.push(format!("{open}other < 1{close}").into_bytes());
-        texts.push(format!("{open}grams < 1 and not {open}lot = 'a'{close}{close} or grams < 1").into_bytes());
-        texts.push(format!("{open}grams < 1").into_bytes());
-        texts.push(vec!["(grams < 1)"; nested].join(" or ").into_bytes());
-    }
-    for leaves in [LEAVES, LEAVES + 1] {
-        texts.push(vec!["grams < 1"; leaves].join(" and ").into_bytes());
-        texts.push(format!("{} ?", vec!["grams < 1"; leaves].join(" and ")).into_bytes());
-    }
-    for length in [TEXT, TEXT + 1] {
-        texts.push(format!("{EXAMPLE:length$}").into_bytes());
-        texts.push("(".repeat(length).into_bytes());
-        texts.push(format!("grams < {:0>1$}", 7, length - 8).into_bytes());
-    }
-    for length in [CONTENT, CONTENT + 1] {
-        texts.push(format!("lot = '{:a<1$}'", "", length).into_bytes());
-    }
-    texts.push(b"lot = '\xff'".to_vec());
-    texts
-}
-
-/// Filters, and damaged copies of them.
-fn drawn(draw: &mut Draw, columns: &[Column]) -> Vec<Vec<u8>> {
-    let mut texts = Vec::new();
-    for _ in 0..DRAWN {
-        // most have few leaves, so that most are answered
-        let limit = draw.one_of(&[4, 4, MOST_LEAVES]);
-        let leaves = 1 + draw.below(limit) as usize;
-        let text = filter(draw, columns, leaves).into_bytes();
-        let mut damaged = text.clone();
-        let at = draw.below(damaged.len() as u64) as usize;
-        match draw.below(3) {
-            0 => damaged[at] = draw.one_of(b" ()<=!'-09aor\xc3"),
-            1 => damaged.truncate(at),
-            _ => damaged.insert(at, draw.one_of(b" ()<=!'-09ant")),
+/// Leaves over Binaries, and filters of several.
+fn binaries(compared: &mut Compared, draw: &mut Draw) {
+    let list = column_list(&BINARIES);
+    for text in of_binaries(&BINARIES).into_iter().chain(drawn(draw, &BINARIES)) {
+        for content in [&b""[..], b"a", b"ab", b"abcd", b"b", b"\xc3", b"\xc3\xa9", b"\xff\0"] {
+            let values = vec![Value::Present(content.to_vec()); BINARIES.len()];
+            compared.ask(&ASKED, &list, &text, &records(&values));
         }
-        texts.extend([text, damaged]);
     }
-    texts
 }
 
 /// Column lists and values with one byte changed, or of other lengths.

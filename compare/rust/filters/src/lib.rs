@@ -3,13 +3,15 @@
 //! before a filter is timed. Nothing here needs the crate iceberg.
 //!
 //! - `writer`: filters, rows and partition values as bytes
-//! - `agree`: some thousand answers of the two, compared
+//! - `texts`: filters that are compared, and texts that are none
+//! - `agree`: answers of the two, compared
 //! - `kinds`: the filters that are timed
 //! - `tables`: the rows that were timed, and the two tables of them
 
 mod agree;
 mod kinds;
 mod tables;
+mod texts;
 mod writer;
 
 pub use kinds::Kinds;

@@ -10,7 +10,7 @@ pub const LOT: Column = Column { name: "lot", column: column::STRING, transform:
 pub const GRAMS: Column = Column { name: "grams", column: column::INT, transform: transform::TRUNCATE, width: 10 };
 pub const EXAMPLE: &str = "lot startswith 'ab' and not (grams < 300 or grams = 500)";
 
-const SIGNS: [&str; 6] = ["<", "<=", ">", ">=", "=", "!="];
+pub const SIGNS: [&str; 6] = ["<", "<=", ">", ">=", "=", "!="];
 
 /// A lot and a weight, as a row has them.
 pub struct Weighing {

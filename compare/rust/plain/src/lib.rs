@@ -3,8 +3,9 @@
 //! the port's bytes and gives the port's numbers, and is neither slowed down nor tuned. It is a crate of its own, so that
 //! how it is compiled does not hang on who calls it.
 //!
-//! Projections are written out for the columns that the benchmark has, Truncate of a number and of a String, and for what
-//! needs no steps; the crate's own take a `BoundPredicate` and would have to be built for each leaf.
+//! Projections are written out for the columns that the benchmark has, Truncate of a number and of a String, for Truncate
+//! of a Binary, and for what needs no steps; the crate's own take a `BoundPredicate` and would have to be built for each
+//! leaf.
 
 mod columns;
 mod parser;

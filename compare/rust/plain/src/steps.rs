@@ -1,4 +1,4 @@
-//! The projections of a leaf: document 01's steps for Truncate of a number and of a String.
+//! The projections of a leaf: document 01's steps for Truncate of a number and of a String, document 02's of a Binary.
 
 use sheets::filter::Asked;
 
@@ -23,6 +23,9 @@ pub fn project<'a>(asked: Asked, column: &Column, leaf: &Leaf<'a>) -> Projected<
         }
         (Transform::Truncate(width), Value::String(text)) => {
             Ok(project_string(asked, width as usize, leaf.operator, text))
+        }
+        (Transform::Truncate(width), Value::Binary(bytes)) => {
+            Ok(project_binary(asked, width as usize, leaf.operator, bytes))
         }
         _ => unimplemented!("the benchmark has no such column"),
     }
@@ -58,38 +61,50 @@ fn in_type(of: Type, number: Option<i64>) -> Result<i64, Refusal> {
 }
 
 fn project_string(asked: Asked, width: usize, operator: Operator, l: &str) -> Option<(Operator, Value<'_>)> {
-    use Operator::*;
     let start = l.char_indices().nth(width).map_or(l, |(end, _)| &l[..end]);
     let is_strict = asked == Asked::Strict;
     let operator = match operator {
-        Less | LessOrEqual if is_strict => Less,
-        Less | LessOrEqual => LessOrEqual,
-        Greater | GreaterOrEqual if is_strict => Greater,
-        Greater | GreaterOrEqual => GreaterOrEqual,
-        Equal if is_strict => return None,
-        NotEqual if !is_strict => return None,
-        StartsWith | NotStartsWith => return project_start(is_strict, width, operator, l, start),
-        same => same,
+        Operator::StartsWith | Operator::NotStartsWith => {
+            let is_longer = start.len() < l.len();
+            let is_as_long = !is_longer && start.chars().count() == width;
+            project_start(is_strict, operator, is_longer, is_as_long)?
+        }
+        _ => project_comparison(is_strict, operator)?,
     };
     Some((operator, Value::String(start)))
 }
 
-fn project_start<'a>(
-    is_strict: bool,
-    width: usize,
-    operator: Operator,
-    l: &str,
-    start: &'a str,
-) -> Option<(Operator, Value<'a>)> {
-    use Operator::*;
-    let is_longer = start.len() < l.len();
-    let is_as_long = !is_longer && start.chars().count() == width;
+fn project_binary(asked: Asked, width: usize, operator: Operator, l: &[u8]) -> Option<(Operator, Value<'_>)> {
+    let start = &l[..width.min(l.len())];
+    let is_strict = asked == Asked::Strict;
     let operator = match operator {
-        StartsWith if is_longer && is_strict => return None,
-        NotStartsWith if is_longer && !is_strict => return None,
-        StartsWith if is_as_long => Equal,
-        NotStartsWith if is_as_long => NotEqual,
-        same => same,
+        Operator::StartsWith | Operator::NotStartsWith => {
+            // the inclusive question keeps its operator where the literal is as long as the width
+            project_start(is_strict, operator, l.len() > width, is_strict && l.len() == width)?
+        }
+        _ => project_comparison(is_strict, operator)?,
     };
-    Some((operator, Value::String(start)))
+    Some((operator, Value::Binary(start)))
+}
+
+fn project_comparison(is_strict: bool, operator: Operator) -> Option<Operator> {
+    use Operator::*;
+    match operator {
+        Less | LessOrEqual => Some(if is_strict { Less } else { LessOrEqual }),
+        Greater | GreaterOrEqual => Some(if is_strict { Greater } else { GreaterOrEqual }),
+        Equal if is_strict => None,
+        NotEqual if !is_strict => None,
+        same => Some(same),
+    }
+}
+
+fn project_start(is_strict: bool, operator: Operator, is_longer: bool, is_as_long: bool) -> Option<Operator> {
+    use Operator::*;
+    match operator {
+        StartsWith if is_longer && is_strict => None,
+        NotStartsWith if is_longer && !is_strict => None,
+        StartsWith if is_as_long => Some(Equal),
+        NotStartsWith if is_as_long => Some(NotEqual),
+        same => Some(same),
+    }
 }
