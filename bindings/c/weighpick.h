@@ -16,7 +16,7 @@
 #define WEIGHPICK_H
 
 /* The version; bindings/rust/Cargo.toml has the same, and CHANGELOG.md says what it has. */
-#define WEIGHPICK_VERSION "0.3.0"
+#define WEIGHPICK_VERSION "0.4.0"
 
 #include <stddef.h>
 #include <stdint.h>
@@ -34,7 +34,7 @@ enum weighpick_answer {
     WEIGHPICK_NOT_UTF8 = 4,            /* a String literal or value is not UTF-8 */
     WEIGHPICK_NO_RESULT_TYPE = 5,      /* the transform does not apply to the column's type */
     WEIGHPICK_DATA_INVALID = 6,        /* calendar or width exceeded, where the crate iceberg answers DataInvalid */
-    WEIGHPICK_FEATURE_UNSUPPORTED = 7, /* transform Unknown; Truncate of a Binary */
+    WEIGHPICK_FEATURE_UNSUPPORTED = 7, /* transform Unknown */
     WEIGHPICK_OVERFLOW = 8,            /* a number leaves its type, where the crate iceberg panics or wraps */
     WEIGHPICK_OUTSIDE_GRAMMAR = 9,     /* no filter, a name that is not in the list, or a literal that does not fit its column */
     WEIGHPICK_TOO_LARGE = 10           /* over WEIGHPICK_TEXT bytes, WEIGHPICK_LEAVES leaves or WEIGHPICK_BRACKETS open brackets */
@@ -107,7 +107,7 @@ enum weighpick_type {
 /* Transforms. */
 enum weighpick_transform_number {
     WEIGHPICK_IDENTITY = 0, /* the value itself */
-    WEIGHPICK_TRUNCATE = 1, /* a number's step of a width, or a string's first code points */
+    WEIGHPICK_TRUNCATE = 1, /* a number's step of a width; a string's first code points, a binary's first bytes */
     WEIGHPICK_YEAR = 2,     /* years from 1970 */
     WEIGHPICK_MONTH = 3,    /* months from January 1970 */
     WEIGHPICK_DAY = 4,      /* days from 1970-01-01 */

@@ -28,7 +28,8 @@ pub enum Refusal {
     NoResultType = 5,
     /// The crate iceberg answers `ErrorKind::DataInvalid`.
     DataInvalid = 6,
-    /// The crate iceberg answers `ErrorKind::FeatureUnsupported`.
+    /// The transform is [`Transform::Unknown`](crate::Transform::Unknown); the crate iceberg answers
+    /// `ErrorKind::FeatureUnsupported`.
     FeatureUnsupported = 7,
     /// A number leaves its type; the crate iceberg panics or wraps there.
     Overflow = 8,
@@ -74,7 +75,7 @@ impl Display for Refusal {
             Refusal::DataInvalid => {
                 "no such partition value: the calendar or the width is exceeded"
             }
-            Refusal::FeatureUnsupported => "the transform is not supported here",
+            Refusal::FeatureUnsupported => "the transform is not known here",
             Refusal::Overflow => "a number leaves the range of its type",
             Refusal::OutsideGrammar => "the text is no filter over these columns",
             Refusal::TooLarge => "the filter has too many bytes, leaves or open brackets",

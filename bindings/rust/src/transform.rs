@@ -13,7 +13,7 @@ use crate::{Error, ParseError, Refusal, Type, Value};
 pub enum Transform {
     /// The value itself.
     Identity,
-    /// A number's step of this width, or so many first code points of a string.
+    /// A number's step of this width; so many first code points of a string, or first bytes of a binary.
     Truncate(u32),
     /// Years from 1970.
     Year,

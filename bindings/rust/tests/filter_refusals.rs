@@ -213,12 +213,6 @@ fn refused_leaves() {
             [Err(Refusal::FeatureUnsupported); 2],
         ),
         (
-            Type::Binary,
-            Transform::Truncate(2),
-            "x<'a'",
-            [Err(Refusal::FeatureUnsupported); 2],
-        ),
-        (
             Type::Int,
             Transform::Truncate(1 << 31),
             "x<1",

@@ -168,6 +168,35 @@ fn literals_of_every_type() -> Result<(), Error> {
 }
 
 #[test]
+fn lots_kept_as_binary() -> Result<(), Error> {
+    let columns = Columns::new([("lot", Type::Binary, Transform::Truncate(2))])?;
+    let texts: [(&[u8], &[u8], bool, bool); 10] = [
+        (b"lot startswith 'a'", b"ab", true, true),
+        (b"lot startswith 'ab'", b"ab", true, true),
+        (b"lot startswith 'ab'", b"a", false, false),
+        (b"lot startswith 'ab'", b"ac", false, false),
+        (b"not lot startswith 'ab'", b"ab", false, false),
+        // The file of "ab" may hold lots that start with "abc" and lots that don't.
+        (b"lot startswith 'abc'", b"ab", true, false),
+        (b"not lot startswith 'abc'", b"ab", true, false),
+        (b"not lot startswith 'abc'", b"ac", true, true),
+        (b"lot < '\xff\x80\0'", b"\xff\x80", true, false),
+        (b"lot < '\xff\x80\0'", b"\xff\x7f", true, true),
+    ];
+    for (text, lot, inclusive, strict) in texts {
+        let filter = Filter::new(&columns, text);
+        let file = columns.partition(&[Literal::binary(lot).into()])?;
+        let answers = (filter.project(&file), filter.strict_project(&file));
+        assert_eq!(
+            answers,
+            (Ok(inclusive), Ok(strict)),
+            "{filter:?} of {lot:?}"
+        );
+    }
+    Ok(())
+}
+
+#[test]
 fn without_a_predicate_inclusive_is_yes_and_strict_is_no() -> Result<(), Error> {
     let void = Columns::new([("x", Type::Int, Transform::Void)])?;
     let file = void.partition(&[Value::Missing])?;

@@ -1,9 +1,9 @@
-//! Document 01, "Moments and lots on either side", with the typed names.
+//! Document 01, "Moments and lots on either side", and document 02's lots kept as binary, with the typed names.
 
 mod support;
 
 use support::said;
-use weighpick::{Error, Leaf, Literal, PredicateOperator, Refusal, Transform, Value};
+use weighpick::{Error, Leaf, Literal, PredicateOperator, Refusal, Transform, Type, Value};
 use Literal::{Date, Int, Timestamp, Timestamptz};
 
 /// The partition value of a present value.
@@ -19,11 +19,11 @@ fn leaf(operator: PredicateOperator, transform: Transform, literal: Literal) -> 
     Leaf::binary(operator, transform, &literal).expect("a short literal")
 }
 
+/// What a projection says, as operator and literals.
+type Projected = Result<Option<(PredicateOperator, Vec<Literal>)>, Refusal>;
+
 /// A predicate with these literals.
-fn predicate(
-    operator: PredicateOperator,
-    literals: &[Literal],
-) -> Result<Option<(PredicateOperator, Vec<Literal>)>, Refusal> {
+fn predicate(operator: PredicateOperator, literals: &[Literal]) -> Projected {
     Ok(Some((operator, literals.to_vec())))
 }
 
@@ -87,6 +87,70 @@ fn starts_with_counts_code_points() {
     let lots = leaf(starts, Transform::Truncate(2), Literal::string("é"));
     let expected = predicate(starts, &[Literal::string("é")]);
     assert_eq!(said(lots.project()), expected);
+}
+
+#[test]
+fn a_binary_is_cut_by_bytes() {
+    let lot = || Literal::binary("éa");
+    let cut = |width| partition(Transform::Truncate(width), lot());
+    assert_eq!(cut(0), Ok(Literal::binary([])));
+    assert_eq!(cut(1), Ok(Literal::binary([0xc3])));
+    assert_eq!(cut(2), Ok(Literal::binary("é")));
+    assert_eq!(cut(3), Ok(lot()));
+    assert_eq!(cut(u32::MAX), Ok(lot()));
+    let missing = Transform::Truncate(1).transform_literal(Type::Binary, &Value::Missing);
+    assert_eq!(missing, Ok(Value::Missing));
+}
+
+/// Both answers to a leaf with one Binary, under Truncate 2.
+fn both(operator: PredicateOperator, lot: &[u8]) -> [Projected; 2] {
+    let leaf = leaf(operator, Transform::Truncate(2), Literal::binary(lot));
+    [said(leaf.project()), said(leaf.strict_project())]
+}
+
+#[test]
+fn starts_of_a_binary() {
+    use PredicateOperator::{Eq, NotEq, NotStartsWith, StartsWith};
+    let is = |operator, lot: &[u8]| predicate(operator, &[Literal::binary(lot)]);
+    for shorter in [&b""[..], b"a", b"\xc3"] {
+        for operator in [StartsWith, NotStartsWith] {
+            let same = [is(operator, shorter), is(operator, shorter)];
+            assert_eq!(both(operator, shorter), same);
+        }
+    }
+    // As long as the width: the inclusive question keeps its operator, where a String has Eq and NotEq.
+    let of_width = [is(StartsWith, b"ab"), is(Eq, b"ab")];
+    assert_eq!(both(StartsWith, b"ab"), of_width);
+    let not_of_width = [is(NotStartsWith, b"ab"), is(NotEq, b"ab")];
+    assert_eq!(both(NotStartsWith, b"ab"), not_of_width);
+    // Longer: "abx" doesn't start with "abc" yet shares its two-byte part.
+    assert_eq!(both(StartsWith, b"abc"), [is(StartsWith, b"ab"), Ok(None)]);
+    let longer = [Ok(None), is(NotStartsWith, b"ab")];
+    assert_eq!(both(NotStartsWith, b"abc"), longer);
+}
+
+#[test]
+fn a_binary_is_compared_as_a_string_is() {
+    use PredicateOperator::*;
+    let cut = |operator| predicate(operator, &[Literal::binary("aé".as_bytes()[..2].to_vec())]);
+    for (operator, expected) in [
+        (LessThan, [cut(LessThanOrEq), cut(LessThan)]),
+        (LessThanOrEq, [cut(LessThanOrEq), cut(LessThan)]),
+        (GreaterThan, [cut(GreaterThanOrEq), cut(GreaterThan)]),
+        (GreaterThanOrEq, [cut(GreaterThanOrEq), cut(GreaterThan)]),
+        (Eq, [cut(Eq), Ok(None)]),
+        (NotEq, [Ok(None), cut(NotEq)]),
+    ] {
+        assert_eq!(both(operator, "aé".as_bytes()), expected, "{operator}");
+    }
+    let lots = ["b", "abc", "abx"].map(Literal::binary);
+    let starts = ["ab", "b"].map(Literal::binary);
+    let set = |operator| Leaf::set(operator, Type::Binary, Transform::Truncate(2), &lots);
+    let (among, outside) = (set(In).expect("three"), set(NotIn).expect("three"));
+    assert_eq!(said(among.project()), predicate(In, &starts));
+    assert_eq!(said(among.strict_project()), Ok(None));
+    assert_eq!(said(outside.project()), Ok(None));
+    assert_eq!(said(outside.strict_project()), predicate(NotIn, &starts));
 }
 
 #[test]

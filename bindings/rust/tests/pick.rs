@@ -25,6 +25,15 @@ fn skip_filter_and_whole() {
 }
 
 #[test]
+fn lots_kept_as_binary() {
+    let after = |lot| pick("binary truncate[2] > 0x00ff01", lot);
+    assert_eq!(after("binary 0x0100"), Ok(Pick::Whole));
+    assert_eq!(after("binary 0x00ff"), Ok(Pick::Filter));
+    assert_eq!(after("binary 0x00"), Ok(Pick::Skip));
+    assert_eq!(after("missing"), Ok(Pick::Skip));
+}
+
+#[test]
 fn without_a_predicate() {
     // Neither has one.
     assert_eq!(pick("int void = 1", "int 1"), Ok(Pick::Filter));
@@ -58,10 +67,6 @@ fn after_a_refusal() -> Result<(), Error> {
     // Of both.
     let wide = format!("int truncate[{}] < 0", 1_u32 << 31);
     assert_eq!(pick(&wide, "int 0"), Ok(Pick::Filter));
-    assert_eq!(
-        pick("binary truncate[2] > 0x00", "binary 0x"),
-        Ok(Pick::Filter)
-    );
     Ok(())
 }
 

@@ -2,7 +2,7 @@
 
 mod support;
 
-use std::collections::BTreeMap;
+use std::collections::{BTreeMap, BTreeSet};
 use std::ops::RangeInclusive;
 
 use support::meets::meets;
@@ -10,21 +10,42 @@ use support::number;
 use support::sample::Random;
 use weighpick::{Leaf, Literal, Pick, PredicateOperator, Transform, Type, Value};
 
-/// Every row of a small range by its partition value, and how often each pick was made of a file that has rows.
+/// The values of a number type in a small range.
+fn numbers(column_type: Type, range: RangeInclusive<i64>) -> Vec<Value> {
+    let numbers = range.filter_map(|v| number(column_type, v));
+    numbers.map(Into::into).collect()
+}
+
+/// Every Binary of up to three of some bytes, in order.
+fn binaries(bytes: &[u8]) -> Vec<Value> {
+    let mut found = BTreeSet::from([Vec::new()]);
+    for _ in 0..3 {
+        let longer = |lot: &Vec<u8>| {
+            bytes
+                .iter()
+                .map(|byte| [&lot[..], &[*byte]].concat())
+                .collect::<Vec<_>>()
+        };
+        let more: Vec<Vec<u8>> = found.iter().flat_map(longer).collect();
+        found.extend(more);
+    }
+    found
+        .into_iter()
+        .map(|lot| Literal::binary(lot).into())
+        .collect()
+}
+
+/// Rows by their partition value, and how often each pick was made of a file that has rows.
 fn small_world(
     column_type: Type,
     transform: Transform,
-    rows: RangeInclusive<i64>,
+    rows: Vec<Value>,
 ) -> BTreeMap<String, usize> {
-    let rows: Vec<Value> = rows
-        .filter_map(|v| number(column_type, v))
-        .map(Into::into)
-        .collect();
     let mut files = BTreeMap::<String, (Value, Vec<&Value>)>::new();
     for row in rows.iter().chain([&Value::Missing]) {
         let value = transform
             .transform_literal(column_type, row)
-            .expect("a small number");
+            .expect("a partition value");
         files
             .entry(value.to_string())
             .or_insert((value, Vec::new()))
@@ -91,7 +112,10 @@ fn no_row_is_lost_in_small_worlds() {
         (Type::Date, Transform::Year, -400..=400),
         (Type::Date, Transform::Day, -20..=20),
     ];
-    for (column_type, transform, rows) in worlds {
+    let lots = || binaries(&[0, b'a', 0xc3, 0xff]);
+    let of_numbers = worlds.map(|(ty, transform, range)| (ty, transform, numbers(ty, range)));
+    let of_lots = [1, 2, 3].map(|width| (Type::Binary, Transform::Truncate(width), lots()));
+    for (column_type, transform, rows) in of_numbers.into_iter().chain(of_lots) {
         let picks = small_world(column_type, transform, rows);
         assert!(
             ["Skip", "Filter", "Whole"]
@@ -101,10 +125,10 @@ fn no_row_is_lost_in_small_worlds() {
         );
     }
     // Under Identity both projections are the leaf itself.
-    let picks = small_world(Type::Int, Transform::Identity, -6..=6);
+    let picks = small_world(Type::Int, Transform::Identity, numbers(Type::Int, -6..=6));
     assert!(picks.keys().eq(["Skip", "Whole"]), "{picks:?}");
     // Void has no predicates.
-    let picks = small_world(Type::Int, Transform::Void, -3..=3);
+    let picks = small_world(Type::Int, Transform::Void, numbers(Type::Int, -3..=3));
     assert!(picks.keys().eq(["Filter"]), "{picks:?}");
 }
 

@@ -147,8 +147,8 @@ fn feature_unsupported() {
         Err(Refusal::FeatureUnsupported),
     ];
     assert_eq!(both(&unknown), refused);
-    let value = record(Literal::binary([1]), Type::Binary);
-    let refused = transform_refusal(Transform::Truncate(1), Type::Binary, &value);
+    let value = record(Value::Missing, Type::Binary);
+    let refused = transform_refusal(Transform::Unknown, Type::Binary, &value);
     assert_eq!(refused, Some(Refusal::FeatureUnsupported));
 }
 
