@@ -1,58 +1,69 @@
 -- From a day to its civil date, and from the date to Iceberg's counts: that the code's signed sums fit, and what they are. Assumes nothing.
 use Prim.Native.Nat.{ℕ, _<_}
-use mathlib.Core.Logic.{_⊎_, inl, inr, ⊎-elim}
-use mathlib.Core.Path.{_≡_, refl, ap, _∙_}
-use mathlib.Core.Bool.{Bool, true, false, cond}
+use mathlib.Core.Path.{_≡_, sym, ap, _∙_}
+use mathlib.Core.Bool.{true, cond}
+use native.Mathlib.Omega.{arith}
 use lib.IntN.{ℤ, pos, _+ℤ_, _-ℤ_, _*ℤ_}
 use mir.Syntax.{w32}
 use mir.Val.{SFits, toZ, ofZ}
-use Rattle.values.specs.laws.IntLaws.{ints, plus, minus, times}
+use Rattle.values.specs.laws.IntLaws.{ints, minus, times}
 use Rattle.values.specs.laws.SignedLaws.{back}
-use Rattle.transform.specs.Gregorian.{yearAt, monthIn}
-use Rattle.transform.specs.laws.GregorianLaws.{monthIn-small}
+use Rattle.transform.specs.Count.{countOff}
+use Rattle.transform.specs.laws.CountLaws.{before-suc}
+use Rattle.transform.specs.Gregorian.{yearLength, monthLength, yearAt}
+use Rattle.transform.specs.laws.GregorianLaws.{yearLength-is, year-lies, cycleDay-is, monthIn-is, monthIn-small}
 use Rattle.transform.specs.Calendar.{inCalendar, daysBack, shift, civilYear, civilMonth, yearOf, monthOf}
-use Rattle.transform.specs.laws.CalendarLaws.{calendar-spans, day-is, yearOf-range, monthOf-range}
-use Rattle.transform.specs.code.TransformAnswers.{dated, counted}
+use Rattle.transform.specs.laws.CalendarLaws.{yearOf-range, monthOf-range}
+use Rattle.transform.specs.YearGroups.{dayInYear}
+use Rattle.transform.specs.laws.YearGroupLaws.{counts-make-year}
+use Rattle.transform.specs.code.TransformAnswers.{groupsOf, grouped, yearAfter, leapAfter, dated, counted}
+use Rattle.transform.specs.laws.TransformAnswerLaws.{dated-on, dated-outside, grouped-into}
+use Rattle.transform.specs.declared.calendar.YearGroups.{YearGroups}
+use Rattle.transform.specs.declared.calendar.Grouped.the-variants.{Into}
 use Rattle.transform.specs.declared.calendar.Civil.{Civil}
 use Rattle.transform.specs.declared.calendar.Dated.the-variants.{On, Outside}
 use Rattle.transform.specs.declared.calendar.Counted.the-variants as counted-as
-use Rattle.transform.proofs.Closed.{year-small}
+use Rattle.transform.proofs.CountedOff.{leap-is}
 
--- ---- a day of the calendar, counted from the first day of year -262400
+-- ---- a day of the calendar: its year fits 32 bits, its place lies in the year, and its month is counted off there
 
-pub index-small : (d : ℤ) → inCalendar d ≡ true → shift daysBack d < 200000000
-index-small d h = omega (ints, day-is d h, calendar-spans d h .1)
+pub year-fits : (d : ℤ) → inCalendar d ≡ true → SFits w32 (civilYear d)
+unfolding yearOf
+year-fits d h = let r = yearOf-range d h in omega (ints, minus (civilYear d) (pos 1970))
 
-module _ {d : ℤ} (f : SFits w32 d) (h : inCalendar d ≡ true) where
-  abbrev sum : ℤ
-  sum = toZ w32 (ofZ w32 d) +ℤ pos 96559160
+day-in-year : (d : ℤ) → inCalendar d ≡ true → dayInYear d < cond (leapAfter (groupsOf d)) 366 365
+unfolding dayInYear
+day-in-year d h =
+    let n = shift daysBack d in
+    let y = yearAt n in
+    let r = year-lies n in
+    rw (leap-is d h) (omega (arith, r .from, r .until, cycleDay-is n, before-suc yearLength y, yearLength-is y))
 
-  sum-is : sum ≡ pos (shift daysBack d)
-  sum-is = rw (back f) (omega (ints, plus d (pos daysBack), day-is d h))
+month-in-year : (d : ℤ) → inCalendar d ≡ true → countOff (monthLength (leapAfter (groupsOf d))) 12 0 (dayInYear d) ≡ civilMonth d
+unfolding dayInYear civilMonth
+month-in-year d h = let n = shift daysBack d in rw (leap-is d h, cycleDay-is n) (sym (monthIn-is n))
 
-  pub sum-fits : SFits w32 sum
-  sum-fits = rw sum-is (omega (ints, index-small d h))
+pub dated-is : (d : ℤ) → inCalendar d ≡ true → {y : ℤ} {m : ℕ} → y ≡ civilYear d → m ≡ civilMonth d
+    → On (record { year = toZ w32 (ofZ w32 y); month0 = m }) ≡ dated d
+dated-is d h p q = rw (h, p, q, back (year-fits d h))
 
-  pub index-is : toZ w32 (ofZ w32 sum) ≡ pos (shift daysBack d)
-  index-is = back sum-fits ∙ sum-is
+-- ---- what `grouped` and `dated` say
 
--- its year y, from which the code takes 262400 years
-module _ (d : ℤ) (h : inCalendar d ≡ true) {y : ℕ} (p : y ≡ yearAt (shift daysBack d)) where
-  pub year-fits : SFits w32 (pos y)
-  year-fits = omega (ints, year-small (shift daysBack d) (index-small d h))
+pub record Before (d : ℤ) (g : YearGroups) (n : ℕ) : Type 0 where
+  pub inside : inCalendar d ≡ true
+  pub year-is : yearAfter g ≡ civilYear d
+  pub in-year : n < cond (leapAfter g) 366 365
+  pub month-is : countOff (monthLength (leapAfter g)) 12 0 n ≡ civilMonth d
 
-  pub civil-fits : SFits w32 (toZ w32 y -ℤ pos 262400)
-  civil-fits = rw (back year-fits) (omega (ints, year-fits, minus (pos y) (pos 262400)))
-
-  pub dated-is : {m : ℕ} → m ≡ monthIn (shift daysBack d) → On (record { year = toZ w32 (ofZ w32 (toZ w32 y -ℤ pos 262400)); month0 = m }) ≡ dated d
-  unfolding civilYear civilMonth
-  dated-is q = rw (h, back civil-fits, back year-fits, p, q)
-
--- ---- what `dated` says
-
-pub picked : {A : Type 0} (b : Bool) {x y z : A} → cond b x y ≡ z → ((b ≡ true) × (x ≡ z)) ⊎ ((b ≡ false) × (y ≡ z))
-picked true e = inl (refl, e)
-picked false e = inr (refl, e)
+pub before-of : (d : ℤ) (g : YearGroups) (n : ℕ) → grouped d ≡ Into g n → Before d g n
+before-of d g n e =
+    let r = grouped-into d g n e in
+    record {
+      inside = r .0;
+      year-is = rw (← r .1) (counts-make-year d (r .0));
+      in-year = rw (← r .1, ← r .2) (day-in-year d (r .0));
+      month-is = rw (← r .1, ← r .2) (month-in-year d (r .0));
+    }
 
 pub record Date (d : ℤ) (k : Civil) : Type 0 where
   pub inside : inCalendar d ≡ true
@@ -61,12 +72,11 @@ pub record Date (d : ℤ) (k : Civil) : Type 0 where
 
 pub date-of : (d : ℤ) (k : Civil) → dated d ≡ On k → Date d k
 date-of d k e =
-    ⊎-elim (λ r. record { inside = r .0; year-is = cc; month-is = cc })
-    (λ r. let z : _≡_ {A = ℕ} 0 1 = cc in absurd (omega ints))
-    (picked (inCalendar d) e)
+    let r = dated-on d k e in
+    record { inside = r .0; year-is = rw (← r .1); month-is = rw (← r .1) }
 
 pub counted-outside : (f : ℤ → ℤ) (d : ℤ) → dated d ≡ Outside → counted f d ≡ counted-as.Outside
-counted-outside f d e = ⊎-elim (λ r. let z : _≡_ {A = ℕ} 0 1 = cc in absurd (omega ints)) (λ r. rw (r .0)) (picked (inCalendar d) e)
+counted-outside f d e = rw (dated-outside d e)
 
 -- ---- the counts of a civil date
 
@@ -79,7 +89,7 @@ module _ {d : ℤ} {k : Civil} (e : Date d k) where
   plain = ap (λ (z : ℤ). z -ℤ pos 1970) (e .year-is)
 
   date-fits : SFits w32 (k .year)
-  date-fits = let r = yearOf-range d (e .inside) in omega (ints, plain, minus (k .year) (pos 1970))
+  date-fits = rw (e .year-is) (year-fits d (e .inside))
 
   abbrev years : ℤ
   years = toZ w32 (ofZ w32 (k .year)) -ℤ pos 1970

@@ -3,6 +3,7 @@ pub mod Floor
 pub mod Count
 pub mod Gregorian
 pub mod Calendar
+pub mod YearGroups
 pub mod Temporal
 pub mod Truncate
 pub mod code

@@ -7,3 +7,5 @@ pub mod BinaryLaws
 pub mod CountLaws
 pub mod GregorianLaws
 pub mod CalendarLaws
+pub mod YearGroupLaws
+pub mod TransformAnswerLaws

@@ -1,26 +1,50 @@
--- What each enum of the code says, as the definitions have it. Assumes nothing.
+-- What each enum and struct of the code says, as the definitions have it. Assumes nothing.
 use Prim.Native.Nat.{ℕ}
-use mathlib.Core.Bool.{cond}
-use lib.Dec.{ltb}
+use mathlib.Core.Bool.{Bool, cond, not, _&&_, _||_}
+use lib.Dec.{eqb, ltb}
 use lib.IntN.{ℤ}
 use Rattle.values.specs.Types.{inType}
 use Rattle.values.specs.declared.datatypes.PrimitiveType.the-variants.{Long}
 use Rattle.transform.specs.Calendar.{inCalendar, civilYear, civilMonth}
+use Rattle.transform.specs.YearGroups.{count400, count100, count4, count1, dayInYear, yearFrom}
 use Rattle.transform.specs.Truncate.{truncated}
+use Rattle.transform.specs.declared.calendar.Civil.{Civil}
 use Rattle.transform.specs.declared.calendar.Dated.{Dated}
 use Rattle.transform.specs.declared.calendar.Dated.the-variants as dated-as
 use Rattle.transform.specs.declared.calendar.Counted.{Counted}
 use Rattle.transform.specs.declared.calendar.Counted.the-variants as counted-as
+use Rattle.transform.specs.declared.calendar.YearGroups.{YearGroups}
+use Rattle.transform.specs.declared.calendar.Grouped.{Grouped}
+use Rattle.transform.specs.declared.calendar.Grouped.the-variants as grouped-as
 use Rattle.transform.specs.declared.truncate.Truncated.{Truncated}
 use Rattle.transform.specs.declared.truncate.Truncated.the-variants as truncated-as
 
 -- ---- the calendar
 
+abbrev pub civilOf : ℤ → Civil
+civilOf d = record { year = civilYear d; month0 = civilMonth d }
+
 abbrev pub dated : ℤ → Dated
-dated d = cond (inCalendar d) (dated-as.On (record { year = civilYear d; month0 = civilMonth d })) dated-as.Outside
+dated d = cond (inCalendar d) (dated-as.On (civilOf d)) dated-as.Outside
 
 abbrev pub counted : (ℤ → ℤ) → ℤ → Counted
 counted count d = cond (inCalendar d) (counted-as.Of (count d)) counted-as.Outside
+
+abbrev pub groupsOf : ℤ → YearGroups
+groupsOf d = record { n400 = count400 d; n100 = count100 d; n4 = count4 d; n1 = count1 d }
+
+abbrev pub grouped : ℤ → Grouped
+grouped d = cond (inCalendar d) (grouped-as.Into (groupsOf d) (dayInYear d)) grouped-as.Outside
+
+abbrev pub yearAfter : YearGroups → ℤ
+yearAfter g = yearFrom (g .n400) (g .n100) (g .n4) (g .n1)
+
+-- whether that is a leap year: the last of 4 years, but not of 100, unless of 400
+abbrev pub leapFrom : ℕ → ℕ → ℕ → Bool
+leapFrom n100 n4 n1 = eqb n1 3 && (not (eqb n4 24) || eqb n100 3)
+
+abbrev pub leapAfter : YearGroups → Bool
+leapAfter g = leapFrom (g .n100) (g .n4) (g .n1)
 
 -- ---- truncation
 

@@ -106,15 +106,19 @@ firstOfMonth-year (suc y) =
 pub firstOfMonth-is : (y m : ℕ) → m ≤ 12 → firstOfMonth (12 * y + m) ≡ firstDay y + before (monthLength (leap y)) m
 firstOfMonth-is y m h = months-of y (firstOfMonth-year y) m h
 
--- the month in the year is counted off from the year's first day
-pub monthIn-is : (n : ℕ) → monthIn n ≡ countOff (monthLength (leap (yearAt n))) 12 0 (n - firstDay (yearAt n))
-unfolding monthIn yearAt cycleDay
-monthIn-is n =
+-- a day's place in its year
+pub cycleDay-is : (n : ℕ) → cycleDay (n % cycle) ≡ n - firstDay (yearAt n)
+unfolding yearAt cycleDay
+cycleDay-is n =
     let q = n / cycle in
     let y = cycleYear (n % cycle) in
     let r = cycle-lies (n % cycle) (omega arith) in
-    let e : n - firstDay (400 * q + y) ≡ n % cycle - firstDay y = omega (arith, firstDay-cycles q y) in
-    rw (e, leap-cycles q y)
+    omega (arith, firstDay-cycles q y)
+
+-- the month in the year is counted off from the year's first day
+pub monthIn-is : (n : ℕ) → monthIn n ≡ countOff (monthLength (leap (yearAt n))) 12 0 (n - firstDay (yearAt n))
+unfolding monthIn yearAt
+monthIn-is n = rw (← cycleDay-is n, leap-cycles (n / cycle) (cycleYear (n % cycle)))
 
 month-found : (n : ℕ) → Lies (monthLength (leap (yearAt n))) (n - firstDay (yearAt n)) (monthIn n) × (monthIn n < 12)
 month-found n =

@@ -1,97 +1,65 @@
--- `calendar::Days::civil` meets its contract: its two tests are those of the calendar's ends. Assumes nothing.
+-- `calendar::Days::civil` meets its contract: the year after the groups of years is the day's, and its month is counted off in it. Assumes nothing.
 use borrow.Author.Needs.{needs}
-use Prim.Native.Nat.{ℕ, _<_}
 use mathlib.Core.Path.{_≡_, ap, _∙_}
-use mathlib.Core.Bool.{true}
-use lib.IntN.{ℤ, natAbs}
-use mir.Syntax.{w32}
-use mir.Val.{SFits}
-use Rattle.values.specs.laws.IntLaws.{ints}
-use Rattle.values.specs.laws.SignedLaws.{lit, lt-taken, lt-left}
-use Rattle.transform.specs.Gregorian.{yearAt, monthIn}
-use Rattle.transform.specs.laws.GregorianLaws.{monthIn-small}
-use Rattle.transform.specs.Calendar.{firstCalendarDay, lastCalendarDay, inCalendar, daysBack, shift}
-use Rattle.transform.specs.laws.CalendarLaws.{calendar-within, calendar-before, calendar-after}
-use Rattle.transform.proofs.Dates.{index-small, sum-fits, index-is, year-fits, civil-fits, dated-is}
+use Prim.Native.Nat.{ℕ}
+use mathlib.Core.Bool.{Bool}
+use lib.IntN.{ℤ}
+use mir.Syntax.{w64}
+use mir.Val.{toZ, ofZ}
+use Rattle.values.specs.laws.SignedLaws.{back, ok}
+use Rattle.transform.specs.Count.{countOff}
+use Rattle.transform.specs.Gregorian.{monthLength}
+use Rattle.transform.specs.Calendar.{civilYear, civilMonth}
+use Rattle.transform.specs.laws.TransformAnswerLaws.{grouped-outside}
+use Rattle.transform.proofs.Dates.{Before, before-of, year-fits, dated-is}
 use Rattle.transform.proofs.calendar.Days.civil.Statement.{statement}
 use Rattle.transform.proofs.calendar.Days.civil.Tie as tie
 
 abbrev day : tie.Start → ℤ
 day c = c .args .self .0
 
-fits : (c : tie.Start) → SFits w32 (day c)
-fits c = search needs
-
 returns : tie.Need-returns
-returns c =
-    let s = c .before .before in
-    rw (calendar-before (day s) (lt-taken (fits s) (lit firstCalendarDay tt) (c .if1 .taken)))
+returns c = rw (grouped-outside (day (c .before .before .before)) (cc))
 
-returns-2 : tie.Need-returns-2
-returns-2 c =
-    let s = c .before .before .before in
-    rw (calendar-after (day s) (lt-taken (lit lastCalendarDay tt) (fits s) (c .if2 .taken)))
-
-module _ (c : tie.Else2) where
+module _ (c : tie.After-leap) where
   abbrev start : tie.Start
-  start = c .before .before .before
+  start = c .before .before .before .before .before
 
-  within : inCalendar (day start) ≡ true
-  within =
-      calendar-within (day start) (lt-left (fits start) (lit firstCalendarDay tt) (c .before .if1 .left))
-      (lt-left (lit lastCalendarDay tt) (fits start) (c .if2 .left))
+  abbrev left : ℕ
+  left = c .before .before .groups .given .0 .1 .0
 
-  abbrev index : ℕ
-  index = shift daysBack (day start)
-
-  small : index < 200000000
-  small = index-small (day start) within
-
-add-n : tie.Need-add-n
-add-n c = sum-fits (fits (start c)) (within c)
-
-cast-n : tie.Need-cast-n
-cast-n c = rw (index-is (fits (start c)) (within c)) (tt, record { fits = omega (ints, small c) })
-
-year-at-requires : tie.Need-year-at-requires
-year-at-requires c κs = rw (index-is (fits (start c)) (within c)) (small c)
+  groups : Before (day start) (c .before .before .groups .given .0 .0) left
+  groups = before-of _ _ _ (cc)
 
 month-in-requires : tie.Need-month-in-requires
-month-in-requires c κs = (year-at-requires (c .before) κs, c .year-at .ensures)
+month-in-requires c κs = rw (c .leap .ensures) (groups c .in-year)
 
-module _ (c : tie.After-month-in) where
-  abbrev place : tie.Else2
+module _ (c : tie.After-year) where
+  abbrev place : tie.After-leap
   place = c .before .before
 
-  year-is : c .before .year-at .result ≡ yearAt (index place)
-  year-is = c .before .year-at .ensures ∙ ap (λ (z : ℤ). yearAt (natAbs z)) (index-is (fits (start place)) (within place))
+  month-is : c .before .month-in .result ≡ civilMonth (day (start place))
+  month-is = c .before .month-in .ensures ∙ ap (λ (l : Bool). countOff (monthLength l) 12 0 (left place)) (place .leap .ensures) ∙ groups place .month-is
 
-  month-is : c .month-in .result ≡ monthIn (index place)
-  month-is = c .month-in .ensures ∙ ap (λ (z : ℤ). monthIn (natAbs z)) (index-is (fits (start place)) (within place))
+  year-is : toZ w64 (ofZ w64 (c .year .result)) ≡ civilYear (day (start place))
+  year-is = back (ok (c .year .result) (c .year .ok)) ∙ c .year .ensures ∙ groups place .year-is
 
-cast-t7 : tie.Need-cast-t7
-cast-t7 c = year-fits _ (within (place c)) (year-is c)
+cast-t8 : tie.Need-cast-t8
+cast-t8 c = rw (year-is c) (year-fits (day (start (place c))) (groups (place c) .inside))
 
-sub-t8 : tie.Need-sub-t8
-sub-t8 c = civil-fits _ (within (place c)) (year-is c)
-
-cast-t9 : tie.Need-cast-t9
-cast-t9 c = rw (month-is c) (record { fits = omega (ints, monthIn-small (index (place c))) })
-
-returns-3 : tie.Need-returns-3
-returns-3 c = dated-is _ (within (place c)) (year-is c) (month-is c)
+returns-2 : tie.Need-returns-2
+returns-2 c = dated-is (day (start (place c))) (groups (place c) .inside) (year-is c) (month-is c)
 
 pub civil-spec : {M : Type 1} → statement M
 civil-spec =
     tie.close
     (tie.spec
+    (λ c κs. search needs)
+    (search needs)
+    (search needs)
     returns
-    returns-2
-    add-n
-    cast-n
-    year-at-requires
+    (λ c κs. search needs)
     month-in-requires
-    cast-t7
-    sub-t8
-    cast-t9
-    returns-3)
+    (λ c κs. search needs)
+    cast-t8
+    returns-2)
