@@ -83,6 +83,7 @@ const MOMENT_DAY: Setting = Setting {
     width: 0,
     content: Draw::moment,
 };
+const MOMENT_YEAR: Setting = Setting { text: "Timestamp, Year", transform: transform::YEAR, ..MOMENT_DAY };
 const MOMENT_MONTH: Setting = Setting { text: "Timestamp, Month", transform: transform::MONTH, ..MOMENT_DAY };
 const MOMENT_HOUR: Setting = Setting { text: "Timestamp, Hour", transform: transform::HOUR, ..MOMENT_DAY };
 const STRING: Setting = Setting {
@@ -115,7 +116,7 @@ fn projections() -> Vec<Projections> {
         kinds.extend(questions.iter().map(|question| projection(setting, operator, *question)));
     };
     put(MOMENT_DAY, ("IsNull", operator::IS_NULL), &[Inclusive, Strict]);
-    for setting in [INT, LONG, DATE_MONTH, MOMENT_DAY, MOMENT_MONTH, MOMENT_HOUR] {
+    for setting in [INT, LONG, DATE_MONTH, MOMENT_DAY, MOMENT_YEAR, MOMENT_MONTH, MOMENT_HOUR] {
         put(setting, ("<", operator::LESS), &[Inclusive, Strict]);
     }
     put(STRING, ("StartsWith", operator::STARTS_WITH), &[Inclusive]);
@@ -133,7 +134,7 @@ fn projections() -> Vec<Projections> {
 }
 
 fn transforms() -> Vec<Values> {
-    [INT, MOMENT_DAY, MOMENT_MONTH, STRING].map(values).into()
+    [INT, MOMENT_DAY, MOMENT_YEAR, MOMENT_MONTH, STRING].map(values).into()
 }
 
 fn projection(setting: Setting, (word, operator): (&str, u16), question: Question) -> Projections {
