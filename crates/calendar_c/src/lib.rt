@@ -47,7 +47,7 @@ pub extern "C" fn calendar_civil(day: i32, year: &mut i32, month0: &mut u32) -> 
     let Dated::On(date) = Days(day).civil() else {
         return 0;
     };
-    // as above
+    // signed, as above
     let civil_year = date.year;
     *year = civil_year;
     *month0 = date.month0;

@@ -11,7 +11,7 @@ use Rattle.values.specs.laws.IntLaws.{up, dn, ints, plus, minus, times}
 use Rattle.transform.specs.Floor.{floorDiv, floorMod}
 use Rattle.transform.specs.laws.FloorLaws.{rem-lt, floor-lin, floor-fits}
 use Rattle.transform.specs.Gregorian.{leap, firstDay, yearAt}
-use Rattle.transform.specs.laws.GregorianLaws.{cycleDay-is}
+use Rattle.transform.specs.laws.GregorianLaws.{leap-cycles, cycleDay-is}
 use Rattle.transform.specs.Calendar.{inCalendar, daysBack, yearsBack, shift, civilYear}
 use Rattle.transform.specs.laws.CalendarLaws.{calendar-spans, shift-is, day-is}
 use Rattle.transform.specs.YearGroups.{dayInYear, yearFrom, InRange}
@@ -19,7 +19,7 @@ use Rattle.transform.specs.laws.YearGroupLaws.{year-lin, counts-only}
 use Rattle.transform.specs.code.TransformAnswers.{groupsOf, grouped, leapAfter}
 use Rattle.transform.specs.declared.calendar.YearGroups.{YearGroups}
 use Rattle.transform.specs.declared.calendar.Grouped.the-variants.{Into}
-use Rattle.transform.proofs.Groups.{yearPast, dayPast, begins, leaps, lies}
+use Rattle.transform.proofs.Groups.{yearPast, dayPast, begins, lies}
 
 -- ---- day r of 400 years
 
@@ -70,10 +70,10 @@ module _ (r : ℕ) (h : r < 146097) where
     all = omega (arith, n100-counted, n1-counted)
 
     found : yearAt (366 + 146097 * a + r) ≡ own
-    found = rw all at (lies a (n100 r) (n4 r) (n1 r) range (in-1 r) in-1-small (omega (arith, in-100-small, n1-counted)))
+    found = rw all at (lies (n100 r) (n4 r) (n1 r) range a (in-1 r) in-1-small (omega (arith, in-100-small, n1-counted)))
 
     left : 366 + 146097 * a + r - firstDay own ≡ in-1 r
-    left = omega (arith, all, begins a (n100 r) (n4 r) (n1 r) range)
+    left = omega (arith, all, begins (n100 r) (n4 r) (n1 r) range a)
 
 -- ---- a day of the calendar: 719162 days lie between 1 January of year 1 and 1 January 1970, and `Calendar` counts from 656 groups of 400 before year 0
 
@@ -139,7 +139,4 @@ module _ (d : ℤ) where
     counted-off = rw (h, ← groups-are, day-left)
 
     pub leap-is : leapAfter (groupsOf d) ≡ leap (yearAt (shift daysBack d))
-    leap-is =
-        ap leapAfter (sym groups-are)
-        ∙ leaps (shift 656 n400) (groups .n100) (groups .n4) (groups .n1) range-is
-        ∙ sym (ap leap own-is)
+    leap-is = ap leapAfter (sym groups-are) ∙ sym (leap-cycles (shift 656 n400) _) ∙ sym (ap leap own-is)

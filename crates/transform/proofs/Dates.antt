@@ -14,8 +14,8 @@ use Rattle.transform.specs.Gregorian.{yearLength, monthLength, yearAt}
 use Rattle.transform.specs.laws.GregorianLaws.{yearLength-is, year-lies, cycleDay-is, monthIn-is, monthIn-small}
 use Rattle.transform.specs.Calendar.{inCalendar, daysBack, shift, civilYear, civilMonth, yearOf, monthOf}
 use Rattle.transform.specs.laws.CalendarLaws.{yearOf-range, monthOf-range}
-use Rattle.transform.specs.YearGroups.{dayInYear}
-use Rattle.transform.specs.laws.YearGroupLaws.{counts-make-year}
+use Rattle.transform.specs.YearGroups.{dayInYear, InRange}
+use Rattle.transform.specs.laws.YearGroupLaws.{counts-in-range, counts-make-year}
 use Rattle.transform.specs.code.TransformAnswers.{groupsOf, grouped, yearAfter, leapAfter, dated, counted}
 use Rattle.transform.specs.laws.TransformAnswerLaws.{dated-on, dated-outside, grouped-into}
 use Rattle.transform.specs.declared.calendar.YearGroups.{YearGroups}
@@ -51,6 +51,7 @@ dated-is d h p q = rw (h, p, q, back (year-fits d h))
 
 pub record Before (d : ℤ) (g : YearGroups) (n : ℕ) : Type 0 where
   pub inside : inCalendar d ≡ true
+  pub range : InRange (g .n100) (g .n4) (g .n1)
   pub year-is : yearAfter g ≡ civilYear d
   pub in-year : n < cond (leapAfter g) 366 365
   pub month-is : countOff (monthLength (leapAfter g)) 12 0 n ≡ civilMonth d
@@ -60,6 +61,7 @@ before-of d g n e =
     let r = grouped-into d g n e in
     record {
       inside = r .0;
+      range = rw (← r .1) (counts-in-range d (r .0));
       year-is = rw (← r .1) (counts-make-year d (r .0));
       in-year = rw (← r .1, ← r .2) (day-in-year d (r .0));
       month-is = rw (← r .1, ← r .2) (month-in-year d (r .0));

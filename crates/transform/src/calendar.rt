@@ -7,6 +7,7 @@ ghost use Prim.Native.Nat.{_*_, _/_, _<_, min};
 ghost use Rattle.transform.specs.Count.{countOff};
 ghost use Rattle.transform.specs.Gregorian.{monthLength};
 ghost use Rattle.transform.specs.Calendar.{yearOf, monthOf};
+ghost use Rattle.transform.specs.YearGroups.{InRange};
 ghost use Rattle.transform.specs.code.TransformAnswers.{dated, counted, grouped, yearAfter, leapAfter};
 
 // A count of days from 1970-01-01.
@@ -80,6 +81,7 @@ impl YearGroups {
     // Whether that is a leap year: the last of 4 years, but not of 100, unless of 400. `&` and `|` make all three tests, without a branch that a
     // processor would guess badly.
     fn leap(self) -> bool
+        requires { ⌜ InRange (self .n100) (self .n4) (self .n1) ⌝ }
         ensures { λ r. ⌜ r ≡ leapAfter self ⌝ }
     {
         (self.n1 == 3) & ((self.n4 != 24) | (self.n100 == 3))

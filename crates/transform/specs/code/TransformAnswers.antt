@@ -1,10 +1,11 @@
 -- What each enum and struct of the code says, as the definitions have it. Assumes nothing.
-use Prim.Native.Nat.{ℕ}
-use mathlib.Core.Bool.{Bool, cond, not, _&&_, _||_}
-use lib.Dec.{eqb, ltb}
+use Prim.Native.Nat.{ℕ, suc, _+_, _*_}
+use mathlib.Core.Bool.{Bool, cond}
+use lib.Dec.{ltb}
 use lib.IntN.{ℤ}
 use Rattle.values.specs.Types.{inType}
 use Rattle.values.specs.declared.datatypes.PrimitiveType.the-variants.{Long}
+use Rattle.transform.specs.Gregorian.{leap}
 use Rattle.transform.specs.Calendar.{inCalendar, civilYear, civilMonth}
 use Rattle.transform.specs.YearGroups.{count400, count100, count4, count1, dayInYear, yearFrom}
 use Rattle.transform.specs.Truncate.{truncated}
@@ -39,12 +40,9 @@ grouped d = cond (inCalendar d) (grouped-as.Into (groupsOf d) (dayInYear d)) gro
 abbrev pub yearAfter : YearGroups → ℤ
 yearAfter g = yearFrom (g .n400) (g .n100) (g .n4) (g .n1)
 
--- whether that is a leap year: the last of 4 years, but not of 100, unless of 400
-abbrev pub leapFrom : ℕ → ℕ → ℕ → Bool
-leapFrom n100 n4 n1 = eqb n1 3 && (not (eqb n4 24) || eqb n100 3)
-
+-- whether that is a leap year: the rule repeats every 400 years
 abbrev pub leapAfter : YearGroups → Bool
-leapAfter g = leapFrom (g .n100) (g .n4) (g .n1)
+leapAfter g = leap (suc (g .n100 * 100 + g .n4 * 4 + g .n1))
 
 -- ---- truncation
 

@@ -2,8 +2,7 @@
 use Prim.Native.Nat.{ℕ}
 use mathlib.Core.Logic.{_⊎_, inl, inr, ⊎-elim}
 use mathlib.Core.Path.{_≡_, refl}
-use mathlib.Core.Bool.{Bool, true, false, cond}
-use native.Mathlib.Omega.{arith}
+use mathlib.Core.Bool.{Bool, true, false, cond, true≢false}
 use lib.IntN.{ℤ}
 use Rattle.transform.specs.Calendar.{inCalendar}
 use Rattle.transform.specs.YearGroups.{dayInYear}
@@ -17,20 +16,16 @@ picked : {A : Type 0} (b : Bool) {x y z : A} → cond b x y ≡ z → ((b ≡ tr
 picked true e = inl (refl, e)
 picked false e = inr (refl, e)
 
--- the other side is another variant
-apart : {X : Type 0} → _≡_ {A = ℕ} 0 1 → X
-apart e = let z : ⊥ = omega arith in absurd z
-
 module _ (d : ℤ) where
   pub dated-on : (k : Civil) → dated d ≡ dated-as.On k → (inCalendar d ≡ true) × (civilOf d ≡ k)
-  dated-on k e = ⊎-elim (λ r. (r .0, cc)) (λ r. apart (cc)) (picked (inCalendar d) e)
+  dated-on k e = ⊎-elim (λ r. (r .0, cc)) (λ r. absurd (true≢false (cc))) (picked (inCalendar d) e)
 
   pub dated-outside : dated d ≡ dated-as.Outside → inCalendar d ≡ false
-  dated-outside e = ⊎-elim (λ r. apart (cc)) (λ r. r .0) (picked (inCalendar d) e)
+  dated-outside e = ⊎-elim (λ r. absurd (true≢false (cc))) (λ r. r .0) (picked (inCalendar d) e)
 
   pub grouped-into : (g : YearGroups) (n : ℕ) → grouped d ≡ grouped-as.Into g n
       → (inCalendar d ≡ true) × (groupsOf d ≡ g) × (dayInYear d ≡ n)
-  grouped-into g n e = ⊎-elim (λ r. (r .0, cc, cc)) (λ r. apart (cc)) (picked (inCalendar d) e)
+  grouped-into g n e = ⊎-elim (λ r. (r .0, cc, cc)) (λ r. absurd (true≢false (cc))) (picked (inCalendar d) e)
 
   pub grouped-outside : grouped d ≡ grouped-as.Outside → inCalendar d ≡ false
-  grouped-outside e = ⊎-elim (λ r. apart (cc)) (λ r. r .0) (picked (inCalendar d) e)
+  grouped-outside e = ⊎-elim (λ r. absurd (true≢false (cc))) (λ r. r .0) (picked (inCalendar d) e)

@@ -21,25 +21,32 @@ day c = c .args .self .0
 returns : tie.Need-returns
 returns c = rw (grouped-outside (day (c .before .before .before)) (cc))
 
-module _ (c : tie.After-leap) where
+-- what `year_groups` gave
+module _ (c : tie.After-known-told) where
   abbrev start : tie.Start
-  start = c .before .before .before .before .before
+  start = c .before .before .before .before
 
   abbrev left : ℕ
-  left = c .before .before .groups .given .0 .1 .0
+  left = c .before .groups .given .0 .1 .0
 
-  groups : Before (day start) (c .before .before .groups .given .0 .0) left
+  groups : Before (day start) (c .before .groups .given .0 .0) left
   groups = before-of _ _ _ (cc)
 
+leap-requires : tie.Need-leap-requires
+leap-requires c κs = groups c .range
+
 month-in-requires : tie.Need-month-in-requires
-month-in-requires c κs = rw (c .leap .ensures) (groups c .in-year)
+month-in-requires c κs = rw (c .leap .ensures) (groups (c .before) .in-year)
 
 module _ (c : tie.After-year) where
-  abbrev place : tie.After-leap
-  place = c .before .before
+  abbrev place : tie.After-known-told
+  place = c .before .before .before
 
   month-is : c .before .month-in .result ≡ civilMonth (day (start place))
-  month-is = c .before .month-in .ensures ∙ ap (λ (l : Bool). countOff (monthLength l) 12 0 (left place)) (place .leap .ensures) ∙ groups place .month-is
+  month-is =
+      c .before .month-in .ensures
+      ∙ ap (λ (l : Bool). countOff (monthLength l) 12 0 (left place)) (c .before .before .leap .ensures)
+      ∙ groups place .month-is
 
   year-is : toZ w64 (ofZ w64 (c .year .result)) ≡ civilYear (day (start place))
   year-is = back (ok (c .year .result) (c .year .ok)) ∙ c .year .ensures ∙ groups place .year-is
@@ -58,7 +65,7 @@ civil-spec =
     (search needs)
     (search needs)
     returns
-    (λ c κs. search needs)
+    leap-requires
     month-in-requires
     (λ c κs. search needs)
     cast-t8
