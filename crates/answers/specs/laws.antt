@@ -1,6 +1,5 @@
 -- The laws about the definitions of `answers`.
 pub mod SettledLaws
-pub mod ContentLaws
 pub mod LeafLaws
 pub mod ReadyLaws
 pub mod StepsLaws

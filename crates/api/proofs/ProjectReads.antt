@@ -1,27 +1,23 @@
 -- What a sheet that was read is answered, and what it promises to the steps. Assumes nothing.
 use Prim.Native.Nat.{ℕ, _≤_}
 use native.Mathlib.Omega.{arith}
-use mathlib.Core.Bool.{true}
 use mathlib.Core.List.{List, []}
 use mathlib.Core.Path.{_≡_, sym, ap, _∙_}
 use lib.ListN.{length}
 use Rattle.values.specs.laws.OutcomeLaws.{going}
 use Rattle.values.specs.Outcomes.{err, _>>=_}
 use Rattle.values.specs.declared.error.ErrorKind.{ErrorKind}
-use Rattle.expr.specs.Operators.{none, one, many, byArity, projectLimit}
-use Rattle.expr.specs.code.OperatorAnswers.{takes}
-use Rattle.expr.specs.laws.PredicateLaws.{arity-of}
-use Rattle.expr.specs.Predicates.{Predicate, unary, test, binary, set, operatorIn, literalsIn}
+use Rattle.expr.specs.Operators.{byArity, projectLimit}
+use Rattle.expr.specs.code.OperatorAnswers.{leafOf}
 use Rattle.projection.specs.declared.question.Question.{Question}
 use Rattle.sheet.specs.code.ReadAnswers.{contentsAt}
-use Rattle.sheet.specs.laws.ResultLaws.{SheetTold, placed-told}
+use Rattle.sheet.specs.laws.ResultLaws.{SheetTold, placed-told, taken-told, leaf-told}
 use Rattle.sheet.specs.laws.SheetLaws.{sheet-read}
 use Rattle.sheet.specs.Sheets.{sheet}
 use Rattle.sheet.specs.declared.sheet.Sheet.{Sheet}
 use Rattle.answers.specs.Answers.{projectedLeaf}
 use Rattle.answers.specs.code.Settled.{Settled}
-use Rattle.answers.specs.laws.LeafLaws.{leaf-of}
-use Rattle.answers.specs.code.Leaves.{leafOf, Ready}
+use Rattle.answers.specs.code.Leaves.{Ready}
 use Rattle.write.specs.Written.{sheetBuffer}
 use Rattle.answers.specs.laws.SettledLaws.{settled-refused, settled-as}
 use Rattle.answers.specs.declared.answer.Answer.{Answer}
@@ -35,28 +31,17 @@ unfolding projectSheet
 no-sheet question s h = settled-refused (rw h)
 
 -- ---- a sheet that was read
-takes-its : (p : Predicate (List ℕ)) → takes (byArity (operatorIn p)) (length (literalsIn p)) ≡ true
-takes-its (unary o) = rw (arity-of (none o))
-takes-its (test (binary o l)) = rw (arity-of (one o))
-takes-its (test (set o ls)) = rw (arity-of (many o))
-
 module _ {s records : List ℕ} {y : Sheet} (t : SheetTold projectLimit s records y) where
   pub ready : {out : List ℕ} → sheetBuffer ≤ length out → Ready (y .head .column) (y .head .operator) (y .count) s records out
   ready room =
       let x = sheet-read projectLimit s (t .x) (t .is) in
       record {
         placed = placed-told t;
-        taken = rw (t .same) (takes-its (t .x .leaf));
+        taken = taken-told t;
         few = rw (t .same) (x .few);
         short = omega (arith, x .length-is, x .others-few);
         room = room;
       }
-
-  leaf-told : leafOf [] (byArity (y .head .operator)) (contentsAt s records (y .count)) ≡ t .x .leaf
-  leaf-told =
-      ap (λ (z : Sheet). leafOf [] (byArity (z .head .operator)) (contentsAt s records (z .count))) (t .same)
-      ∙ ap (leafOf [] (byArity (operatorIn (t .x .leaf)))) (sym (t .literals .literals))
-      ∙ leaf-of [] (t .x .leaf)
 
   pub sheet-answered : (question : Question) {out after : List ℕ} {answer : Answer}
       → Settled (projectedLeaf question (y .head .column) (y .head .transform) (leafOf [] (byArity (y .head .operator)) (contentsAt s records (y .count)))) out after answer
@@ -69,4 +54,4 @@ module _ {s records : List ℕ} {y : Sheet} (t : SheetTold projectLimit s record
       same =
           going _ (t .is)
           ∙ ap (λ (z : Sheet). projectedLeaf question (z .head .column) (z .head .transform) (t .x .leaf)) (sym (t .same))
-          ∙ ap (projectedLeaf question (y .head .column) (y .head .transform)) (sym leaf-told)
+          ∙ ap (projectedLeaf question (y .head .column) (y .head .transform)) (sym (leaf-told t))

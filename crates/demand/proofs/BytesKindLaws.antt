@@ -10,7 +10,7 @@ use borrow.Author.Tests.{leb-true, le-leb}
 use Rattle.values.specs.code.Places.{AllOf}
 use Rattle.values.specs.Outcomes.{ok, Row, missing, present}
 use Rattle.values.specs.laws.OutcomeLaws.{ok-inj, passing, passed}
-use Rattle.values.specs.Types.{bytes, layout, typeNumber}
+use Rattle.values.specs.Types.{number, bytes, layout, typeNumber}
 use Rattle.values.specs.code.TypeResults.{isBytes}
 use Rattle.values.specs.laws.TypesLaws.{bytes-layout}
 use Rattle.values.specs.declared.datatypes.PrimitiveType.{PrimitiveType}
@@ -40,6 +40,18 @@ use Rattle.demand.proofs.KindLaws.{KindLaws}
 use Rattle.demand.proofs.ReadBackLaws.{ValueLaws}
 
 -- ---- the types of byte strings: 9 and 10
+pub numbers-at-most : (column : PrimitiveType) (n : ℕ) → layout column ≡ number n → typeNumber column ≤ 8
+numbers-at-most Int n e = omega arith
+numbers-at-most Long n e = omega arith
+numbers-at-most Date n e = omega arith
+numbers-at-most Time n e = omega arith
+numbers-at-most Timestamp n e = omega arith
+numbers-at-most Timestamptz n e = omega arith
+numbers-at-most TimestampNs n e = omega arith
+numbers-at-most TimestamptzNs n e = omega arith
+numbers-at-most String n e = absurd (true≢false (cc))
+numbers-at-most Binary n e = absurd (true≢false (cc))
+
 pub bytes-above : (column : PrimitiveType) (n : ℕ) → layout column ≡ bytes n → 8 < typeNumber column
 bytes-above Int n e = absurd (true≢false (cc))
 bytes-above Long n e = absurd (true≢false (cc))

@@ -87,7 +87,7 @@ module _ {question : Question} {s q : List ℕ} where
   bytesLaw b = bytes-kind (b .column) (b .answer .to) (b .transform) (b .size) (b .is) (b .answer .result-is)
 
 -- ---- byte strings
-head-type : (type transform width : ℕ) (h : Head) → head type transform width ≡ ok h → typeNumber (h .column) ≡ type
+pub head-type : (type transform width : ℕ) (h : Head) → head type transform width ≡ ok h → typeNumber (h .column) ≡ type
 unfolding head
 head-type type transform width h e =
     let t = gone (find types type) _ e in

@@ -1,5 +1,5 @@
 -- Demand 3 is about something: for each of its clauses a sheet, a row, its partition value and an answer sheet that meet what the clause asks; for the two on
--- losing and letting in, also those of a Binary column. Assumes nothing.
+-- losing and letting in, also those of a Binary column. What is public here serves `filedemand` too. Assumes nothing.
 use Prim.Native.Nat.{ℕ}
 use native.Mathlib.Omega.{arith}
 use mathlib.Core.List.{List, [], _∷_}
@@ -38,20 +38,20 @@ use Rattle.api.specs.Routines.{projectSheet, transformValue}
 use Rattle.demand.proofs.RecordBytes.{record-bytes}
 use Rattle.api.specs.Demand3.{typeIn, Returns, Accepts, RowOf, Numeric, Lifts, OneAbove}
 
-abbrev int : ℤ → List ℕ
+abbrev pub int : ℤ → List ℕ
 int z = signedBytes 4 z
 
-abbrev intValue : ℤ → List ℕ
+abbrev pub intValue : ℤ → List ℕ
 intValue z = valueOf (int z)
 
 -- ---- an Int under Truncate 10: the leaf < 300, the row 5 and its partition value 0, and the predicates ≤ 290 and < 300
-abbrev below300 : List ℕ
+abbrev pub below300 : List ℕ
 below300 = sheetOf 201 1 1 10 (int (pos 300) ∷ [])
 
-abbrev atMost290 : List ℕ
+abbrev pub atMost290 : List ℕ
 atMost290 = answerSheet Int (test (binary lessThanOrEq (int (pos 290))))
 
-abbrev less300 : List ℕ
+abbrev pub less300 : List ℕ
 less300 = answerSheet Int (test (binary lessThan (int (pos 300))))
 
 abbrev five : List ℕ
@@ -64,7 +64,7 @@ row-of-nought : RowOf below300 nought five
 unfolding transformValue head transformOf value content transformedRow resultType numberPartition partition transformNumber inType truncated floorMod
 row-of-nought = refl
 
-returned : Returns Inclusive below300 atMost290 × Returns Strict below300 less300
+pub returned : Returns Inclusive below300 atMost290 × Returns Strict below300 less300
 unfolding projectSheet sheet fields head transformOf content projectedLeaf resultType projectNumbers transformNumber inType truncated floorMod answerSheet
 returned = (refl, refl)
 
@@ -129,10 +129,10 @@ one-above-asks =
 abbrev abc : List ℕ
 abc = ascii "abc"
 
-abbrev startsAbc : List ℕ
+abbrev pub startsAbc : List ℕ
 startsAbc = sheetOf 207 10 1 2 (abc ∷ [])
 
-abbrev startsAb : List ℕ
+abbrev pub startsAb : List ℕ
 startsAb = answerSheet Binary (test (binary startsWith (ascii "ab")))
 
 abbrev notStartsAbc : List ℕ
@@ -151,7 +151,7 @@ binary-rows : RowOf startsAbc (valueOf (ascii "ab")) (valueOf (ascii "abcd")) ×
 unfolding transformValue head transformOf value content transformedRow resultType bytesPartition partition transformBytes firstBytes
 binary-rows = (refl, refl)
 
-binary-returned : Returns Inclusive startsAbc startsAb × Returns Strict notStartsAbc notStartsAb
+pub binary-returned : Returns Inclusive startsAbc startsAb × Returns Strict notStartsAbc notStartsAb
 unfolding projectSheet sheet fields head transformOf content projectedLeaf resultType projectBytes transformBytes firstBytes answerSheet
 binary-returned = (refl, refl)
 

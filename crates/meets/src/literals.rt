@@ -20,7 +20,7 @@ ghost use Rattle.meets.specs.code.HeldAnswers.{numberMeets, bytesMeets};
 ghost use Rattle.sheet.specs.code.ReadAnswers.{Placed, contentsAt, numbersAt};
 
 // Whether a number equals one of the literals in the first count records.
-fn number_among(s: &[u8], records: &[u16], count: usize, column: PrimitiveType, v: i64) -> bool
+pub fn number_among(s: &[u8], records: &[u16], count: usize, column: PrimitiveType, v: i64) -> bool
     requires { ⌜ Placed (layout column) (now s) (now records) count ⌝ }
     ensures { λ r. ⌜ r ≡ elem compareNumbers v (numbersAt (layout column) (now (s .entry)) (now (records .entry)) count) ⌝ }
 {
@@ -35,7 +35,7 @@ fn number_among(s: &[u8], records: &[u16], count: usize, column: PrimitiveType, 
 }
 
 // The same for a byte string.
-fn bytes_among(s: &[u8], records: &[u16], count: usize, column: PrimitiveType, v: &[u8]) -> bool
+pub fn bytes_among(s: &[u8], records: &[u16], count: usize, column: PrimitiveType, v: &[u8]) -> bool
     requires { ⌜ Placed (layout column) (now s) (now records) count ⌝ }
     ensures { λ r. ⌜ r ≡ elem compareBytes (now (v .entry)) (contentsAt (now (s .entry)) (now (records .entry)) count) ⌝ }
 {

@@ -13,8 +13,11 @@ use Rattle.values.specs.declared.datatypes.PrimitiveType.the-variants.{String}
 use Rattle.expr.specs.Predicates.{Predicate, unary, test, binary, set}
 
 -- a number of n bytes
+abbrev pub numberOf : ℕ → List ℕ → ℤ
+numberOf n bs = signed n (leNumber bs)
+
 abbrev pub readNumber : ℕ → List ℕ → Res ℤ
-readNumber n bs = ok (signed n (leNumber bs))
+readNumber n bs = ok (numberOf n bs)
 
 -- 01: "4: a String literal or value is not UTF-8"
 abbrev pub readBytes : PrimitiveType → List ℕ → Res (List ℕ)

@@ -3,6 +3,7 @@ pub mod Arms
 pub mod Ascii
 pub mod BitLaws
 pub mod Held
+pub mod OrderArms
 pub mod Refusals
 pub mod Rests
 pub mod TypeArms

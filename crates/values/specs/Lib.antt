@@ -7,6 +7,7 @@ pub mod Words
 pub mod Characters
 pub mod Utf8
 pub mod Order
+pub mod SomeEvery
 pub mod Ascending
 pub mod code
 pub mod laws

@@ -13,6 +13,8 @@ pub mod Utf8Laws
 pub mod Utf8StepLaws
 pub mod OrderLaws
 pub mod PrefixLaws
+pub mod ConvexLaws
+pub mod SomeLaws
 pub mod AscendingLaws
 pub mod PlaceLaws
 pub mod OutcomeLaws

@@ -3,7 +3,7 @@ use crate::words::u64_at;
 ghost use mathlib.Core.Path.{_≡_};
 ghost use Prim.Native.Nat.{_≤_};
 ghost use lib.ListN.{length, take};
-ghost use Rattle.values.specs.Order.{compareBytes, startsWith};
+ghost use Rattle.values.specs.Order.{compareBytes, isLess, startsWith};
 
 // The Rust's std::cmp::Ordering.
 pub enum Ordering {
@@ -55,6 +55,17 @@ pub fn compare_bytes(a: &[u8], b: &[u8]) -> Ordering
         Ordering::Less
     } else {
         Ordering::Equal
+    }
+}
+
+// Whether a is below b.
+pub fn is_less(a: &[u8], b: &[u8]) -> bool
+    ensures { λ r. ⌜ r ≡ isLess (compareBytes (now (a .entry)) (now (b .entry))) ⌝ }
+{
+    if let Ordering::Less = compare_bytes(a, b) {
+        true
+    } else {
+        false
     }
 }
 

@@ -44,7 +44,7 @@ fn signed_of(u: u64) -> i64
 }
 
 // The bits of z.
-fn bits_of(z: i64) -> u64
+pub fn bits_of(z: i64) -> u64
     ensures { λ r. ⌜ r ≡ unsigned 8 z ⌝ }
 {
     if z < 0 {

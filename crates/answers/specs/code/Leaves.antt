@@ -1,7 +1,7 @@
 -- A leaf by its operator and the literals in the order of the chain, as the code has it, and what the steps give of it as bytes. Assumes nothing.
 use Prim.Native.Nat.{ℕ, suc, _*_, _≤_}
 use mathlib.Core.Bool.{Bool, true, false, _||_}
-use mathlib.Core.List.{List, [], _∷_}
+use mathlib.Core.List.{List, []}
 use mathlib.Core.Path.{_≡_}
 use lib.IntN.{ℤ, pos, sucℤ}
 use lib.ListN.{length}
@@ -14,8 +14,8 @@ use Rattle.values.specs.declared.transform.Transform.{Transform}
 use Rattle.values.specs.declared.transform.Transform.the-variants.{Identity, Truncate, Year, Month, Day, Hour, Void, Unknown}
 use Rattle.partition.specs.ResultType.{resultType}
 use Rattle.expr.specs.Operators.{Operator, none, one, many, isIn, notIn, byArity, projectLimit}
-use Rattle.expr.specs.code.OperatorAnswers.{takesOne, takes}
-use Rattle.expr.specs.Predicates.{Test, Predicate, unary, test, binary, set}
+use Rattle.expr.specs.code.OperatorAnswers.{takesOne, takes, leafOf}
+use Rattle.expr.specs.Predicates.{Test, Predicate, test}
 use Rattle.expr.specs.declared.operator.PredicateOperator.{PredicateOperator}
 use Rattle.projection.specs.Lifting.{lifted}
 use Rattle.projection.specs.Projection.{byTransform, numberStep, bytesStep}
@@ -31,13 +31,6 @@ use Rattle.sheet.specs.Values.{byLayout, mapLiterals}
 use Rattle.sheet.specs.declared.head.Head.{Head}
 use Rattle.answers.specs.Answers.{projectedLeaf}
 use Rattle.answers.specs.declared.leaf.Leaf.{Leaf}
-
--- of an operator that takes one literal the first counts; `other` stands for it where there is none
-abbrev pub leafOf : {A : Type 0} → A → Operator → List A → Predicate A
-leafOf other (none o) ls = unary o
-leafOf other (one o) [] = test (binary o other)
-leafOf other (one o) (l ∷ ls) = test (binary o l)
-leafOf other (many o) ls = test (set o ls)
 
 -- what a sheet's leaf is answered, by its head and the records of its literals
 abbrev pub projectedAt : Question → Head → ℕ → List ℕ → List ℕ → Res (Projected (List ℕ))

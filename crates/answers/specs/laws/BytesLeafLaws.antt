@@ -22,7 +22,7 @@ use Rattle.values.specs.declared.transform.Transform.the-variants.{Identity, Tr
 use Rattle.values.specs.declared.error.ErrorKind.the-variants.{NoResultType}
 use Rattle.partition.specs.ResultType.{isOneOf, forTypes, withDays, withHours, resultType}
 use Rattle.expr.specs.Operators.{operatorNumber, SetOperator, isIn, notIn, Operator, none, one, many, byArity, operatorOf}
-use Rattle.expr.specs.code.OperatorAnswers.{takesOne, takesMany}
+use Rattle.expr.specs.code.OperatorAnswers.{leafOf, takesOne, takesMany}
 use Rattle.expr.specs.laws.PredicateLaws.{operator-of}
 use Rattle.expr.specs.Predicates.{test}
 use Rattle.expr.specs.declared.operator.PredicateOperator.{PredicateOperator}
@@ -42,7 +42,7 @@ use Rattle.write.specs.laws.WrittenLaws.{length-records}
 use Rattle.sets.specs.laws.FilledLaws.{parts-all}
 use Rattle.sets.specs.laws.SetLaws.{asSet, bytes-within, bytes-outside, bytes-set-identity}
 use Rattle.sets.specs.code.Sets.{bytesSet}
-use Rattle.answers.specs.code.Leaves.{leafOf, bytesWritten, byteSteps, bytesLeafAt, oneBytesWritten, hasSteps, keptBy, keeps, ReadyLeaf, BytesColumn}
+use Rattle.answers.specs.code.Leaves.{bytesWritten, byteSteps, bytesLeafAt, oneBytesWritten, hasSteps, keptBy, keeps, ReadyLeaf, BytesColumn}
 use Rattle.answers.specs.laws.OneLiteralLaws.{one-there, one-literal}
 use Rattle.answers.specs.declared.leaf.Leaf.{Leaf}
 

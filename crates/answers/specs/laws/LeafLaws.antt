@@ -1,7 +1,7 @@
 -- What a leaf is answered, by the checks before the steps: 4, then 5, then the steps. Assumes nothing.
 use Prim.Native.Nat.{ℕ}
 use mathlib.Core.Bool.{Bool, true, false, not, _||_}
-use mathlib.Core.List.{List, [], _∷_, map}
+use mathlib.Core.List.{List}
 use mathlib.Core.Path.{_≡_, refl, _∙_}
 use lib.IntN.{ℤ}
 use Rattle.values.specs.Outcomes.{Res, ok, err, need, _>>=_, _>>_}
@@ -14,9 +14,7 @@ use Rattle.values.specs.declared.error.ErrorKind.{ErrorKind}
 use Rattle.values.specs.declared.error.ErrorKind.the-variants.{NotUtf8}
 use Rattle.values.specs.declared.transform.Transform.{Transform}
 use Rattle.partition.specs.ResultType.{resultType}
-use Rattle.expr.specs.Operators.{Operator, none, one, many, byArity}
-use Rattle.expr.specs.laws.PredicateLaws.{arity-of}
-use Rattle.expr.specs.Predicates.{Predicate, unary, test, binary, set, operatorIn, literalsIn}
+use Rattle.expr.specs.Predicates.{Predicate, literalsIn}
 use Rattle.projection.specs.Projection.{projectNumbers, projectBytes}
 use Rattle.projection.specs.Steps.{Projected}
 use Rattle.projection.specs.declared.question.Question.{Question}
@@ -24,21 +22,9 @@ use Rattle.answers.specs.Answers.{projected, projectedLeaf}
 use Rattle.sheet.specs.code.Contents.{allUtf8}
 use Rattle.answers.specs.Kinds.{numbers, byteStrings}
 use Rattle.sheet.specs.Values.{byLayout, mapLiterals}
-use Rattle.answers.specs.code.Leaves.{leafOf, numbersWritten, bytesWritten, numberSteps, byteSteps, steps}
+use Rattle.answers.specs.code.Leaves.{numbersWritten, bytesWritten, numberSteps, byteSteps, steps}
 use Rattle.sheet.specs.laws.ReadLaws.{number-literals, bytes-literals}
 use Rattle.answers.specs.declared.leaf.Leaf.{Leaf}
-
--- a leaf by its operator and its literals
-pub leaf-of : {A : Type 0} (other : A) (leaf : Predicate A) → leafOf other (byArity (operatorIn leaf)) (literalsIn leaf) ≡ leaf
-leaf-of other (unary o) = rw (arity-of (none o))
-leaf-of other (test (binary o l)) = rw (arity-of (one o))
-leaf-of other (test (set o ls)) = rw (arity-of (many o))
-
-pub map-leaf : {A B : Type 0} (f : A → B) (other : A) (o : Operator) (ls : List A) → mapLiterals f (leafOf other o ls) ≡ leafOf (f other) o (map f ls)
-map-leaf f other (none o) ls = refl
-map-leaf f other (one o) [] = refl
-map-leaf f other (one o) (l ∷ ls) = refl
-map-leaf f other (many o) ls = refl
 
 -- no column of numbers is a String
 pub numbers-string : (column : PrimitiveType) (n : ℕ) → layout column ≡ number n → sameType column String ≡ false

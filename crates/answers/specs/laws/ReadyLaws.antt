@@ -12,15 +12,16 @@ use Rattle.values.specs.declared.error.ErrorKind.the-variants.{NotUtf8}
 use Rattle.values.specs.declared.transform.Transform.{Transform}
 use Rattle.partition.specs.ResultType.{resultType}
 use Rattle.expr.specs.Operators.{byArity}
+use Rattle.expr.specs.code.OperatorAnswers.{leafOf}
 use Rattle.expr.specs.Predicates.{Predicate, literalsIn}
 use Rattle.expr.specs.declared.operator.PredicateOperator.{PredicateOperator}
 use Rattle.projection.specs.declared.question.Question.{Question}
 use Rattle.sheet.specs.code.ReadAnswers.{contentsAt}
 use Rattle.answers.specs.Answers.{projectedLeaf}
-use Rattle.answers.specs.laws.ContentLaws.{literals-taken}
+use Rattle.sheet.specs.laws.ReadLaws.{literals-taken}
 use Rattle.sheet.specs.code.Contents.{allUtf8}
 use Rattle.answers.specs.laws.LeafLaws.{leaf-not-utf8, leaf-no-type, leaf-steps}
-use Rattle.answers.specs.code.Leaves.{leafOf, bytesLeafAt, steps, Ready}
+use Rattle.answers.specs.code.Leaves.{bytesLeafAt, steps, Ready}
 use Rattle.answers.specs.declared.leaf.Leaf.{Leaf}
 
 module _ {column : PrimitiveType} {operator : PredicateOperator} {count : ℕ} {s records out : List ℕ}

@@ -18,7 +18,7 @@ use Rattle.values.specs.declared.transform.Transform.{Transform}
 use Rattle.values.specs.declared.transform.Transform.the-variants.{Identity, Truncate, Year, Month, Day, Hour, Void, Unknown}
 use Rattle.expr.specs.Operators as operators
 use Rattle.expr.specs.Operators.{Unary, SetOperator, isIn, notIn, Operator, one, many, byArity, operatorOf}
-use Rattle.expr.specs.code.OperatorAnswers.{takesNone, takesMany}
+use Rattle.expr.specs.code.OperatorAnswers.{leafOf, takesNone, takesMany}
 use Rattle.expr.specs.laws.PredicateLaws.{operator-of}
 use Rattle.expr.specs.Predicates.{Test, Predicate, unary, test, set}
 use Rattle.numbers.specs.laws.BoundaryLaws.{lifted-none}
@@ -30,10 +30,9 @@ use Rattle.projection.specs.declared.question.Question.the-variants.{Inclusive,
 use Rattle.sheet.specs.code.ReadAnswers.{Placed, contentsAt}
 use Rattle.write.specs.Written.{answerBytes, answerSheet}
 use Rattle.sheet.specs.code.Contents.{numberIn}
-use Rattle.sheet.specs.laws.ReadLaws.{placed-numbers}
+use Rattle.sheet.specs.laws.ReadLaws.{map-leaf, placed-numbers}
 use Rattle.sheet.specs.Values.{byLayout, mapLiterals}
-use Rattle.answers.specs.laws.LeafLaws.{map-leaf}
-use Rattle.answers.specs.code.Leaves.{leafOf, numberSteps, byteSteps, steps, numberLeafAt, bytesLeafAt}
+use Rattle.answers.specs.code.Leaves.{numberSteps, byteSteps, steps, numberLeafAt, bytesLeafAt}
 use Rattle.answers.specs.code.Leaves.{hasSteps, isIdentity, keptBy, keeps, NumberColumn, BytesColumn}
 use Rattle.answers.specs.declared.leaf.Leaf.{Leaf}
 

@@ -1,6 +1,7 @@
 -- What each enum of the code says, as the definitions have it. Assumes nothing.
 use Prim.Native.Nat.{ℕ}
 use mathlib.Core.Bool.{Bool, true, false, not}
+use mathlib.Core.List.{List, [], _∷_}
 use lib.Dec.{eqb}
 use Rattle.values.specs.Outcomes.{Res, ok, err}
 use Rattle.values.specs.Order.{isLess, isEqual}
@@ -9,6 +10,7 @@ use Rattle.values.specs.declared.order.Ordering.{Ordering}
 use Rattle.expr.specs.Operators.{Operator, none, one, many}
 use Rattle.expr.specs.Operators as operators
 use Rattle.expr.specs.Holds.{Tests, binaryMeets}
+use Rattle.expr.specs.Predicates.{Predicate, unary, test, binary, set}
 use Rattle.expr.specs.declared.operator.PredicateOperator.{PredicateOperator}
 use Rattle.expr.specs.declared.operator.PredicateOperator.the-variants.{IsNull, NotNull, IsNan, NotNan, LessThan, LessThanOrEq, GreaterThan, GreaterThanOrEq, Eq, NotEq, StartsWith, NotStartsWith, In, NotIn}
 use Rattle.expr.specs.declared.operator.OperatorResult.{OperatorResult}
@@ -36,6 +38,13 @@ abbrev pub takes : Operator → ℕ → Bool
 takes (none o) n = eqb n 0
 takes (one o) n = eqb n 1
 takes (many o) n = true
+
+-- a leaf by its operator and its literals in their order: of an operator that takes one the first counts, and `other` stands for it where there is none
+abbrev pub leafOf : {A : Type 0} → A → Operator → List A → Predicate A
+leafOf other (none o) ls = unary o
+leafOf other (one o) [] = test (binary o other)
+leafOf other (one o) (l ∷ ls) = test (binary o l)
+leafOf other (many o) ls = test (set o ls)
 
 -- the Rust's `is_unary`, `is_binary` and `is_set`
 abbrev pub takesNone : Operator → Bool

@@ -1,14 +1,18 @@
--- The opposite of a test, and sets whatever their order and repeats. Assumes nothing.
-use mathlib.Core.Bool.{true, false, not}
-use mathlib.Core.List.{List}
+-- The opposite of a test, sets whatever their order and repeats, and a leaf by its operator and its literals. Assumes nothing.
+use mathlib.Core.Bool.{Bool, true, false, not}
+use mathlib.Core.List.{List, [], _∷_}
 use mathlib.Core.Path.{_≡_, refl, sym, ap, _∙_}
 use Rattle.values.specs.Ascending.{elem, ascending}
 use Rattle.values.specs.laws.AscendingLaws.{elem-ascending}
+use Rattle.values.specs.Outcomes.{missing}
 use Rattle.values.specs.laws.TestLaws.{not-not}
 use Rattle.values.specs.declared.order.Ordering.the-variants.{Equal}
-use Rattle.expr.specs.Holds.{Tests, setMeets, meets}
+use Rattle.expr.specs.Holds.{Tests, missingMeets, setMeets, meets, presentMeets, holds}
 use Rattle.expr.specs.Operators as operators
-use Rattle.expr.specs.code.OperatorAnswers.{negated}
+use Rattle.expr.specs.code.OperatorAnswers.{negated, leafOf}
+use Rattle.expr.specs.declared.operator.PredicateOperator.{PredicateOperator}
+use Rattle.expr.specs.declared.operator.PredicateOperator.the-variants.{IsNull, NotNull, IsNan, NotNan, LessThan, LessThanOrEq, GreaterThan, GreaterThanOrEq, Eq, NotEq, StartsWith, NotStartsWith, In, NotIn}
+use Rattle.expr.specs.laws.PredicateLaws.{leaf-arity}
 use Rattle.expr.specs.Predicates.{Test, binary, set, test, operatorIn}
 
 -- ---- opposites
@@ -74,3 +78,36 @@ module _ {A : Type 0} (by : Tests A) where
   pub meets-ascending : ((a b : A) → by .compare a b ≡ Equal → a ≡ b) → (o : operators.SetOperator) (ls : List A) (v : A)
       → meets by (set o (ascending (by .compare) ls)) v ≡ meets by (set o ls) v
   meets-ascending equal o ls v = set-members o v (ascending (by .compare) ls) ls (elem-ascending (by .compare) equal v ls)
+
+-- ---- a leaf by its operator and its literals
+module _ {A : Type 0} (by : Tests A) (other : A) (ls : List A) where
+  pub missing-leaf : (a : operators.Operator) → holds by (leafOf other a ls) missing ≡ missingMeets a
+  missing-leaf a = ap missingMeets (leaf-arity other a ls)
+
+  abbrev met : operators.Operator → A → Bool
+  met a v = presentMeets by (leafOf other a ls) v
+
+  opposite-one : (o : operators.Binary) (v : A) → met (operators.one (operators.oppositeBinary o)) v ≡ not (met (operators.one o) v)
+  opposite-one o v = go ls
+    where
+      go : (ls : List A)
+          → presentMeets by (leafOf other (operators.one (operators.oppositeBinary o)) ls) v ≡ not (presentMeets by (leafOf other (operators.one o) ls) v)
+      go [] = meets-opposite by (binary o other) v
+      go (l ∷ ls) = meets-opposite by (binary o l) v
+
+  -- a present value meets the negated operator exactly where it does not meet the operator
+  pub negated-leaf : (o : PredicateOperator) (v : A) → met (operators.byArity (negated o)) v ≡ not (met (operators.byArity o) v)
+  negated-leaf IsNull v = refl
+  negated-leaf NotNull v = refl
+  negated-leaf IsNan v = refl
+  negated-leaf NotNan v = refl
+  negated-leaf LessThan v = opposite-one operators.lessThan v
+  negated-leaf LessThanOrEq v = opposite-one operators.lessThanOrEq v
+  negated-leaf GreaterThan v = opposite-one operators.greaterThan v
+  negated-leaf GreaterThanOrEq v = opposite-one operators.greaterThanOrEq v
+  negated-leaf Eq v = opposite-one operators.eq v
+  negated-leaf NotEq v = opposite-one operators.notEq v
+  negated-leaf StartsWith v = opposite-one operators.startsWith v
+  negated-leaf NotStartsWith v = opposite-one operators.notStartsWith v
+  negated-leaf In v = meets-opposite by (set operators.isIn ls) v
+  negated-leaf NotIn v = meets-opposite by (set operators.notIn ls) v

@@ -1,18 +1,21 @@
 -- Operators have one number each and predicates one operator and one list of literals each: what is written of them can be read back.
 -- Assumes nothing.
-use Prim.Native.Nat.{ℕ}
+use Prim.Native.Nat.{ℕ, suc}
+use native.Mathlib.Omega.{arith}
 use mathlib.Core.Bool.{true, false, true≢false, false≢true}
 use mathlib.Core.List.{List, [], _∷_}
 use mathlib.Core.Path.{_≡_, refl, _∙_}
 use lib.Dec.{eqb}
+use lib.ListN.{length}
+use borrow.Author.Tests.{eqb-true}
 use Rattle.values.specs.Numbered.{find}
 use Rattle.values.specs.Outcomes.{ok}
 use Rattle.values.specs.laws.OutcomeLaws.{ok-inj, ok-not-err}
 use Rattle.values.specs.laws.TypesLaws.{found-number}
 use Rattle.expr.specs.Operators.{operators, operatorNumber, Operator, none, one, many, byArity, operatorOf}
-use Rattle.expr.specs.code.OperatorAnswers.{takes, takesNone, takesOne, takesMany}
+use Rattle.expr.specs.code.OperatorAnswers.{negated, takes, leafOf, takesNone, takesOne, takesMany}
 use Rattle.expr.specs.Operators.{isNull, notNull, isNan, notNan, lessThan, lessThanOrEq, greaterThan, greaterThanOrEq, eq, notEq, startsWith, notStartsWith, isIn, notIn}
-use Rattle.expr.specs.Predicates.{Predicate, unary, test, binary, set, operatorIn, literalsIn, withLiterals, predicate}
+use Rattle.expr.specs.Predicates.{Predicate, unary, test, binary, set, byArityIn, operatorIn, literalsIn, withLiterals, predicate}
 use Rattle.expr.specs.declared.operator.PredicateOperator.{PredicateOperator}
 use Rattle.expr.specs.declared.operator.PredicateOperator.the-variants.{IsNull, NotNull, IsNan, NotNan, LessThan, LessThanOrEq, GreaterThan, GreaterThanOrEq, Eq, NotEq, StartsWith, NotStartsWith, In, NotIn}
 
@@ -98,12 +101,61 @@ takes-many (none o) n h = absurd (false≢true h)
 takes-many (one o) n h = absurd (false≢true h)
 takes-many (many o) n h = refl
 
+-- an operator and its opposite take alike
+pub takes-negated : (o : PredicateOperator) (n : ℕ) → takes (byArity (negated o)) n ≡ takes (byArity o) n
+takes-negated IsNull n = refl
+takes-negated NotNull n = refl
+takes-negated IsNan n = refl
+takes-negated NotNan n = refl
+takes-negated LessThan n = refl
+takes-negated LessThanOrEq n = refl
+takes-negated GreaterThan n = refl
+takes-negated GreaterThanOrEq n = refl
+takes-negated Eq n = refl
+takes-negated NotEq n = refl
+takes-negated StartsWith n = refl
+takes-negated NotStartsWith n = refl
+takes-negated In n = refl
+takes-negated NotIn n = refl
+
 -- ---- predicates
 module _ {A : Type 0} where
   pub predicate-back : (p : Predicate A) → predicate (operatorIn p) (literalsIn p) ≡ ok p
   predicate-back (unary o) = rw (arity-of (none o))
   predicate-back (test (binary o l)) = rw (arity-of (one o))
   predicate-back (test (set o ls)) = rw (arity-of (many o))
+
+  -- a leaf is that of its operator and its literals, of which it has as many as the operator takes
+  pub leaf-of : (other : A) (p : Predicate A) → leafOf other (byArity (operatorIn p)) (literalsIn p) ≡ p
+  leaf-of other (unary o) = rw (arity-of (none o))
+  leaf-of other (test (binary o l)) = rw (arity-of (one o))
+  leaf-of other (test (set o ls)) = rw (arity-of (many o))
+
+  pub takes-its : (p : Predicate A) → takes (byArity (operatorIn p)) (length (literalsIn p)) ≡ true
+  takes-its (unary o) = rw (arity-of (none o))
+  takes-its (test (binary o l)) = rw (arity-of (one o))
+  takes-its (test (set o ls)) = rw (arity-of (many o))
+
+  -- a leaf of an operator has its literals, where they are as many as the operator takes; what stands for a literal that is not there then does not matter
+  pub leaf-arity : (other : A) (a : Operator) (ls : List A) → byArityIn (leafOf other a ls) ≡ a
+  leaf-arity other (none o) ls = refl
+  leaf-arity other (one o) [] = refl
+  leaf-arity other (one o) (l ∷ ls) = refl
+  leaf-arity other (many o) ls = refl
+
+  pub leaf-literals : (other : A) (a : Operator) (ls : List A) → takes a (length ls) ≡ true → literalsIn (leafOf other a ls) ≡ ls
+  leaf-literals other (none o) [] h = refl
+  leaf-literals other (none o) (l ∷ ls) h = absurd (omega (arith, eqb-true (suc (length ls)) 0 h))
+  leaf-literals other (one o) [] h = absurd (omega (arith, eqb-true 0 1 h))
+  leaf-literals other (one o) (l ∷ []) h = refl
+  leaf-literals other (one o) (l ∷ k ∷ ls) h = absurd (omega (arith, eqb-true (suc (suc (length ls))) 1 h))
+  leaf-literals other (many o) ls h = refl
+
+  pub other-literal : (d e : A) (a : Operator) (ls : List A) → takes a (length ls) ≡ true → leafOf d a ls ≡ leafOf e a ls
+  other-literal d e (none o) ls h = refl
+  other-literal d e (one o) [] h = absurd (omega (arith, eqb-true 0 1 h))
+  other-literal d e (one o) (l ∷ ls) h = refl
+  other-literal d e (many o) ls h = refl
 
   with-literals : (a : Operator) (ls : List A) (p : Predicate A) → withLiterals a ls ≡ ok p → (operatorIn p ≡ operatorOf a) × (literalsIn p ≡ ls)
   with-literals (none o) [] p e = rw (← ok-inj e) (refl, refl)

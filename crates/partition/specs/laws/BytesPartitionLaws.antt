@@ -3,16 +3,13 @@ use Prim.Native.Nat.{ℕ}
 use mathlib.Core.Bool.{Bool, true, false, cond}
 use mathlib.Core.List.{List}
 use mathlib.Core.Logic.{_⊎_, inl, inr}
-use mathlib.Core.Path.{_≡_, refl, sym, ap, subst, _∙_}
+use mathlib.Core.Path.{_≡_, refl, sym, ap, subst}
 use lib.ListN.{length, take}
 use lib.Seq.{take-length}
-use borrow.Author.Tests.{eqb-true}
-use Rattle.values.specs.Numbered.{find}
 use Rattle.values.specs.Outcomes.{ok, missing, present}
 use Rattle.values.specs.laws.OutcomeLaws.{ok-inj, present-inj, ok-not-err, missing-not-present}
 use Rattle.values.specs.laws.TestLaws.{clash}
-use Rattle.values.specs.Types.{types, typeNumber, sameType}
-use Rattle.values.specs.laws.TypesLaws.{type-found}
+use Rattle.values.specs.Types.{sameType}
 use Rattle.values.specs.Utf8.{utf8}
 use Rattle.values.specs.declared.datatypes.PrimitiveType.{PrimitiveType}
 use Rattle.values.specs.declared.datatypes.PrimitiveType.the-variants.{String}
@@ -22,9 +19,6 @@ use Rattle.transform.specs.Truncate.{firstCodePoints, firstBytes}
 use Rattle.transform.specs.laws.BinaryLaws.{first-bytes-take}
 use Rattle.transform.specs.laws.StringLaws.{first-take, first-utf8}
 use Rattle.partition.specs.Partition.{truncateBytes, transformBytes}
-
-pub same-type : (a b : PrimitiveType) → sameType a b ≡ true → a ≡ b
-same-type a b e = ok-inj (sym (type-found a) ∙ ap (find types) (eqb-true (typeNumber a) (typeNumber b) e) ∙ type-found b)
 
 -- a value is the beginning of what it is made of. A String's is UTF-8 where that is; a Binary may be cut within a code point
 pub record Begins (ty : PrimitiveType) (s t : List ℕ) : Type 0 where

@@ -3,14 +3,13 @@ use Prim.Native.Nat.{ℕ}
 use native.Mathlib.Omega.{arith}
 use mathlib.Core.Bool.{Bool, true, false, not, cond}
 use mathlib.Core.List.{List}
-use mathlib.Core.Logic.{_↔_}
 use mathlib.Core.Path.{_≡_, refl, sym, ap, _∙_}
 use lib.Dec.{ltb, leb}
 use borrow.Author.Tests.{not-true, ltb-true, ltb-false, leb-true}
 use Rattle.values.specs.code.Places.{AllOf}
 use Rattle.values.specs.Order as order
-use Rattle.values.specs.Order.{compareBytes, isLess}
-use Rattle.values.specs.laws.OrderLaws.{is-less, asymmetric, bytes-order}
+use Rattle.values.specs.Order.{compareBytes}
+use Rattle.values.specs.laws.OrderLaws.{is-less, not-below, asymmetric, bytes-order}
 use Rattle.values.specs.laws.PrefixLaws.{starts-self, starts-through}
 use Rattle.values.specs.Outcomes.{Res, ok, _>>=_}
 use Rattle.values.specs.laws.OutcomeLaws.{ok-inj}
@@ -18,7 +17,6 @@ use Rattle.values.specs.laws.TestLaws.{stable, refuted, clash}
 use Rattle.values.specs.Types.{sameType}
 use Rattle.values.specs.declared.datatypes.PrimitiveType.{PrimitiveType}
 use Rattle.values.specs.declared.datatypes.PrimitiveType.the-variants.{String}
-use Rattle.values.specs.declared.order.Ordering.{Ordering}
 use Rattle.values.specs.declared.order.Ordering.the-variants.{Less}
 use Rattle.transform.specs.laws.Cutting.{Cutting}
 use Rattle.expr.specs.Holds.{bytesTests, meets}
@@ -30,10 +28,6 @@ use Rattle.projection.specs.ByteSteps.{Step, stringStarts, stringNotStar
 use Rattle.projection.specs.laws.EqualLaws.{Equals, eq-equals, in-equals}
 use Rattle.projection.specs.laws.StepLaws.{Returned, returned-map, returned-weaken, returned-literal, returned-cond, returned-length, opposite-literal, opposite-each, opposite-length}
 use Rattle.projection.specs.Steps.{Projected, some, none, mapped, withLiteral, withEach}
-
--- ---- the tests of byte strings
-not-below : (o : Ordering) → (not (isLess o) ≡ true) ↔ (o ≡ Less → ⊥)
-not-below o = (λ h e. clash (ap isLess e) (not-true _ h), λ f. ap not (refuted _ (λ k. f (is-less o .0 k))))
 
 -- ---- T cuts
 module _ {Fine : List ℕ → Type 0} {count : List ℕ → ℕ} {w : ℕ} {cut : List ℕ → List ℕ} (cutting : Cutting Fine count w cut) (T : List ℕ → Res (List ℕ))

@@ -23,7 +23,8 @@ use Rattle.values.specs.declared.transform.Transform.the-variants.{Identity}
 use Rattle.partition.specs.code.PartitionAnswers.{InType, OfPresent}
 use Rattle.partition.specs.Partition.{known, ofRow, transformNumber, transformBytes, numberPartition, bytesPartition}
 use Rattle.partition.specs.laws.PartitionRowLaws.{number-row, bytes-row}
-use Rattle.partition.specs.laws.BytesPartitionLaws.{same-type, bytes-begin}
+use Rattle.partition.specs.laws.BytesPartitionLaws.{bytes-begin}
+use Rattle.values.specs.laws.TypesLaws.{same-type}
 use Rattle.partition.specs.laws.PartitionLaws.{number-lands, number-identity, string-result}
 use Rattle.partition.specs.ResultType.{resultType}
 use Rattle.expr.specs.Predicates.{Test, Predicate, test, literalsIn}

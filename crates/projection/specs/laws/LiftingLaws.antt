@@ -1,18 +1,15 @@
 -- Laws of lifting: a lifted test accepts what the test accepts, and what is one above a negative literal that it accepts. Assumes nothing.
 use Prim.Native.Nat.{ℕ}
-use mathlib.Core.Bool.{Bool, true, false, not}
+use mathlib.Core.Bool.{Bool, true, false}
 use mathlib.Core.List.{List, [], _∷_, List·Memᴰ as Isin, List·Memᴰ·head as here, List·Memᴰ·tail as there, List·Memᴰ·eq-of-singleton as eq-of-singleton}
 use mathlib.Core.Logic.{_⊎_, inl, inr, ⊎-elim, _↔_}
 use mathlib.Core.Path.{_≡_, refl, ap}
 use lib.IntN.{ℤ, pos, negsuc, sucℤ, predℤ, suc-pred}
 use lib.Signed.{_≤ℤ_, _<ℤ_}
-use borrow.Author.Tests.{not-true}
 use Rattle.values.specs.laws.IntLaws.{ints, le-or-lt}
-use Rattle.values.specs.Order.{compareNumbers, isLess}
-use Rattle.values.specs.laws.OrderLaws.{is-less, number-less}
+use Rattle.values.specs.laws.OrderLaws.{is-below, is-at-most}
 use Rattle.values.specs.Outcomes.{Res, ok, err, _>>=_}
 use Rattle.values.specs.laws.RangeLaws.{next}
-use Rattle.values.specs.laws.TestLaws.{refuted, clash}
 use Rattle.expr.specs.laws.EqualityLaws.{number-tells, is-same, is-member, is-ascending-member}
 use Rattle.expr.specs.Holds.{numberTests, meets}
 use Rattle.expr.specs.Operators.{lessThan, lessThanOrEq, greaterThan, greaterThanOrEq, eq, notEq, startsWith, notStartsWith, isIn, notIn}
@@ -23,14 +20,6 @@ use Rattle.projection.specs.Steps.{Projected, some, none}
 use Rattle.projection.specs.laws.StepLaws.{Returned, returned-map}
 
 -- ---- the tests of numbers, as orders
-pub is-below : (v l : ℤ) → (isLess (compareNumbers v l) ≡ true) ↔ (v <ℤ l)
-is-below v l = (λ h. number-less v l .0 (is-less (compareNumbers v l) .0 h), λ h. is-less (compareNumbers v l) .1 (number-less v l .1 h))
-
-pub is-at-most : (v l : ℤ) → (not (isLess (compareNumbers l v)) ≡ true) ↔ (v ≤ℤ l)
-is-at-most v l = (
-  λ h. ⊎-elim (λ k. k) (λ k. clash (is-below l v .1 k) (not-true _ h)) (le-or-lt v l),
-  λ h. ap not (refuted _ (λ k. let j = is-below l v .0 k in omega ints)),
-)
 
 -- < L is ≤ L−1, and > L is ≥ L+1
 pub less-is : (v l : ℤ) → (meets numberTests (binary lessThan l) v ≡ true) ↔ (v ≤ℤ predℤ l)

@@ -11,6 +11,7 @@ use Rattle.values.specs.Ascending.{ascending}
 use Rattle.values.specs.laws.AscendingLaws.{all-isin}
 use Rattle.values.specs.laws.IntLaws.{ints, le-or-lt, ≤ℤ-antisym}
 use Rattle.values.specs.Order.{compareNumbers}
+use Rattle.values.specs.laws.OrderLaws.{is-at-most}
 use Rattle.values.specs.Outcomes.{Res, ok, err, _>>=_}
 use Rattle.values.specs.laws.OutcomeLaws.{passed}
 use Rattle.values.specs.laws.TestLaws.{stable, refuted, clash}
@@ -24,7 +25,7 @@ use Rattle.expr.specs.laws.HoldsLaws.{opposite, meets-false, opposite-true}
 use Rattle.expr.specs.Operators.{lessThan, lessThanOrEq, greaterThan, greaterThanOrEq, eq, notEq, startsWith, notStartsWith, isIn, notIn}
 use Rattle.expr.specs.Predicates.{Test, binary, set, test, literalsIn}
 use Rattle.projection.specs.Lifting.{lift}
-use Rattle.projection.specs.laws.LiftingLaws.{is-at-most, less-is, greater-is, Above, liftIf, returned-lifted, lift-keeps, Rises, at-most-rises, at-least-rises, equal-rises, within-rises, lift-back}
+use Rattle.projection.specs.laws.LiftingLaws.{less-is, greater-is, Above, liftIf, returned-lifted, lift-keeps, Rises, at-most-rises, at-least-rises, equal-rises, within-rises, lift-back}
 use Rattle.projection.specs.NumberSteps.{oneBelow, oneAbove, inclusiveNumber, strictNumber}
 use Rattle.projection.specs.Projection.{liftedBy}
 use Rattle.projection.specs.laws.EqualLaws.{Equals, eq-equals, in-equals}

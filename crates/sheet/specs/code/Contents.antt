@@ -8,8 +8,8 @@ use lib.IntN.{ℤ, pos}
 use Rattle.values.specs.Outcomes.{Row, missing, present}
 use Rattle.values.specs.Types.{Layout, number, bytes, layout}
 use Rattle.values.specs.Utf8.{utf8}
-use Rattle.values.specs.Words.{leNumber, signed}
 use Rattle.values.specs.declared.datatypes.PrimitiveType.{PrimitiveType}
+use Rattle.sheet.specs.Values.{numberOf}
 
 abbrev pub allUtf8 : List (List ℕ) → Bool
 allUtf8 [] = true
@@ -21,7 +21,7 @@ rowUtf8 (present v) = utf8 v
 
 -- the number that a content is, of a layout with numbers
 abbrev pub numberIn : Layout → List ℕ → ℤ
-numberIn (number n) bs = signed n (leNumber bs)
+numberIn (number n) bs = numberOf n bs
 numberIn (bytes n) bs = pos 0
 
 -- a type of numbers of n bytes

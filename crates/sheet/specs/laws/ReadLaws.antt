@@ -4,6 +4,8 @@ use native.Mathlib.Omega.{arith}
 use mathlib.Core.Bool.{Bool, true, false, not, _&&_, _||_, or-true, and-true}
 use mathlib.Core.List.{List, [], _∷_, map}
 use mathlib.Core.Path.{_≡_, refl, ap₂, _∙_}
+use lib.ListN.{length, take, length-map}
+use lib.Seq.{length-take-le}
 use borrow.Author.Tests.{eqb-true}
 use Rattle.values.specs.Outcomes.{Res, ok, need, each, _>>=_, _>>_, Row, missing, present}
 use Rattle.values.specs.Types.{Layout, number, bytes, sameType}
@@ -13,6 +15,9 @@ use Rattle.values.specs.declared.datatypes.PrimitiveType.{PrimitiveType}
 use Rattle.values.specs.declared.datatypes.PrimitiveType.the-variants.{String}
 use Rattle.values.specs.declared.error.ErrorKind.{ErrorKind}
 use Rattle.values.specs.declared.error.ErrorKind.the-variants.{NotUtf8}
+use Rattle.expr.specs.Operators.{Operator, none, one, many}
+use Rattle.expr.specs.code.OperatorAnswers.{takes, leafOf}
+use Rattle.expr.specs.laws.PredicateLaws.{leaf-literals}
 use Rattle.expr.specs.Predicates.{Predicate, unary, test, binary, set, operatorIn, literalsIn}
 use Rattle.sheet.specs.Values.{readNumber, readBytes, eachLiteral, readRow, mapRow, mapLiterals}
 use Rattle.sheet.specs.code.Contents.{allUtf8, rowUtf8, numberIn}
@@ -44,6 +49,12 @@ module _ {A B : Type 0} (f : A → B) where
   map-literals (unary o) = refl
   map-literals (test (binary o l)) = refl
   map-literals (test (set o ls)) = refl
+
+pub map-leaf : {A B : Type 0} (f : A → B) (other : A) (o : Operator) (ls : List A) → mapLiterals f (leafOf other o ls) ≡ leafOf (f other) o (map f ls)
+map-leaf f other (none o) ls = refl
+map-leaf f other (one o) [] = refl
+map-leaf f other (one o) (l ∷ ls) = refl
+map-leaf f other (many o) ls = refl
 
 pub number-literals : (n : ℕ) (leaf : Predicate (List ℕ)) → eachLiteral (readNumber n) leaf ≡ ok (mapLiterals (λ bs. signed n (leNumber bs)) leaf)
 number-literals n leaf = literals-read (λ bs. signed n (leNumber bs)) leaf
@@ -111,3 +122,11 @@ placed-numbers l s (k ∷ ns) (suc count) placed =
     ap₂ _∷_
     (content-number l s k (placed .each 0 (omega arith)))
     (placed-numbers l s ns count (record { room = omega (arith, placed .room); each = λ i h. placed .each (suc i) (omega arith) }))
+
+-- ---- a leaf has the literals that its records hold, as many as its operator takes
+pub length-placed : (l : Layout) (s ns : List ℕ) (count : ℕ) → Placed l s ns count → length (contentsAt s ns count) ≡ count
+length-placed l s ns count placed = length-map (take count ns) (contentAt s) ∙ length-take-le count ns (placed .room)
+
+pub literals-taken : (l : Layout) (s ns : List ℕ) (count : ℕ) (o : Operator) → Placed l s ns count → takes o count ≡ true
+    → literalsIn (leafOf [] o (contentsAt s ns count)) ≡ contentsAt s ns count
+literals-taken l s ns count o placed h = leaf-literals [] o (contentsAt s ns count) (rw (length-placed l s ns count placed) h)

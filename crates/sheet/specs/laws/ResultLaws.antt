@@ -3,16 +3,19 @@ use Prim.Native.Nat.{ℕ, _≤_}
 use native.Mathlib.Omega.{arith}
 use mathlib.Core.Bool.{Bool, true, false, cond, false≢true}
 use mathlib.Core.List.{List, []}
-use mathlib.Core.Path.{_≡_, refl, ap, _∙_}
+use mathlib.Core.Path.{_≡_, refl, sym, ap, _∙_}
 use lib.ListN.{length, take, length-map, length-take}
 use Rattle.values.specs.laws.OutcomeLaws.{ok-not-err}
 use Rattle.values.specs.Outcomes.{Res, ok, err, Row, missing, present, row}
 use Rattle.values.specs.Types.{layout}
 use Rattle.values.specs.declared.datatypes.PrimitiveType.{PrimitiveType}
 use Rattle.values.specs.declared.error.ErrorKind.{ErrorKind}
-use Rattle.expr.specs.Predicates.{literalsIn}
+use Rattle.expr.specs.Operators.{byArity}
+use Rattle.expr.specs.Predicates.{operatorIn, literalsIn}
+use Rattle.expr.specs.code.OperatorAnswers.{takes, leafOf}
+use Rattle.expr.specs.laws.PredicateLaws.{leaf-of, takes-its}
 use Rattle.sheet.specs.laws.PartLaws.{ValueContent, value-content}
-use Rattle.sheet.specs.code.ReadAnswers.{contentAt, Placed, sheetRead, sheetResult, LiteralsRead, valueResult}
+use Rattle.sheet.specs.code.ReadAnswers.{contentAt, contentsAt, Placed, sheetRead, sheetResult, LiteralsRead, valueResult}
 use Rattle.sheet.specs.Records.{value}
 use Rattle.sheet.specs.Sheets as sheets
 use Rattle.sheet.specs.declared.sheet.Sheet.{Sheet}
@@ -86,3 +89,14 @@ placed-told {most} {s} {records} t =
     let counted : n ≡ length (take n records) = ap length (t .literals .literals) ∙ length-map (take n records) (contentAt s) in
     let room : n ≤ length records = omega (arith, counted, length-take n records) in
     rw (t .same) (record { room = room; each = t .literals .each })
+
+-- its leaf is that of the operator and the literals that were read, as many as the operator takes
+module _ {most : ℕ} {s records : List ℕ} {y : Sheet} (t : SheetTold most s records y) where
+  pub taken-told : takes (byArity (y .head .operator)) (y .count) ≡ true
+  taken-told = rw (t .same) (takes-its (t .x .leaf))
+
+  pub leaf-told : leafOf [] (byArity (y .head .operator)) (contentsAt s records (y .count)) ≡ t .x .leaf
+  leaf-told =
+      ap (λ (z : Sheet). leafOf [] (byArity (z .head .operator)) (contentsAt s records (z .count))) (t .same)
+      ∙ ap (leafOf [] (byArity (operatorIn (t .x .leaf)))) (sym (t .literals .literals))
+      ∙ leaf-of [] (t .x .leaf)

@@ -8,13 +8,9 @@ use mathlib.Core.Path.{_≡_, refl, sym, ap, _∙_}
 use lib.Dec.{leb, ltb, eqb}
 use lib.ListN.{length, length-append}
 use borrow.Author.Tests.{leb-true, ltb-true, eqb-true, le-leb, lt-leb}
+use Rattle.values.specs.SomeEvery.{every}
 use Rattle.values.specs.laws.TestLaws.{and-both, both-and}
 use Rattle.values.specs.Utf8.{Range, _to_, within, continues, forms, matches, anyForm, isCodePoint}
-
--- every member passes a test
-abbrev pub every : {A : Type 0} → (A → Bool) → List A → Bool
-every p [] = true
-every p (x ∷ xs) = p x && every p xs
 
 -- ---- from the table to a list of one of its forms
 

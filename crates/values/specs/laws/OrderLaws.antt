@@ -1,16 +1,17 @@
 -- Total orders told by a comparison, those of numbers and of byte strings. Assumes nothing.
 use Prim.Native.Nat.{ℕ, zero, suc, _<_}
 use native.Mathlib.Omega.{arith}
-use mathlib.Core.Bool.{Bool, true, false, cond, true≢false}
+use mathlib.Core.Bool.{Bool, true, false, not, cond, true≢false}
 use mathlib.Core.List.{List, [], _∷_, _++_}
 use mathlib.Core.Logic.{_⊎_, inl, inr, ⊎-elim, _↔_}
 use mathlib.Core.Path.{_≡_, refl, sym, ap, ap₂, subst, _∙_}
 use lib.Dec.{ltb}
 use lib.IntN.{ℤ}
 use lib.ListN.{take}
-use lib.Signed.{ltZ, _<ℤ_}
-use borrow.Author.Tests.{ltb-true, ltb-false, lt-ltb, le-ltb}
-use Rattle.values.specs.laws.IntLaws.{ints, lt-true, lt-false, ltZ-yes, ltZ-not, <ℤ-trans, ≤ℤ-antisym}
+use lib.Signed.{ltZ, _≤ℤ_, _<ℤ_}
+use borrow.Author.Tests.{ltb-true, ltb-false, lt-ltb, le-ltb, not-true}
+use Rattle.values.specs.laws.IntLaws.{ints, lt-true, lt-false, ltZ-yes, ltZ-not, <ℤ-trans, ≤ℤ-antisym, le-or-lt}
+use Rattle.values.specs.laws.TestLaws.{clash, refuted}
 use Rattle.values.specs.code.Places.{flip}
 use Rattle.values.specs.Order.{compareNumbers, compareBytes, isLess, isEqual}
 use Rattle.values.specs.declared.order.Ordering.{Ordering}
@@ -29,6 +30,9 @@ is-less o = (from o, λ e. ap isLess e)
     from Less h = refl
     from Equal h = cc
     from Greater h = cc
+
+pub not-below : (o : Ordering) → (not (isLess o) ≡ true) ↔ (o ≡ Less → ⊥)
+not-below o = (λ h e. clash (ap isLess e) (not-true _ h), λ f. ap not (refuted _ (λ k. f (is-less o .0 k))))
 
 pub is-equal : (o : Ordering) → (isEqual o ≡ true) ↔ (o ≡ Equal)
 is-equal o = (from o, λ e. ap isEqual e)
@@ -114,6 +118,16 @@ number-equal a b = (λ e. subst (Told a b) e (told a b), λ e. rw (e, ltZ-not {a
 pub number-greater : (a b : ℤ) → (compareNumbers a b ≡ Greater) ↔ (b <ℤ a)
 unfolding compareNumbers
 number-greater a b = (λ e. subst (Told a b) e (told a b), λ h. rw (ltZ-not {a = a} {b = b} (omega ints), ltZ-yes h))
+
+-- the tests of numbers, as orders
+pub is-below : (v l : ℤ) → (isLess (compareNumbers v l) ≡ true) ↔ (v <ℤ l)
+is-below v l = (λ h. number-less v l .0 (is-less (compareNumbers v l) .0 h), λ h. is-less (compareNumbers v l) .1 (number-less v l .1 h))
+
+pub is-at-most : (v l : ℤ) → (not (isLess (compareNumbers l v)) ≡ true) ↔ (v ≤ℤ l)
+is-at-most v l = (
+  λ h. ⊎-elim (λ k. k) (λ k. clash (is-below l v .1 k) (not-true _ h)) (le-or-lt v l),
+  λ h. ap not (refuted _ (λ k. let j = is-below l v .0 k in omega ints)),
+)
 
 pub number-order : TotalOrder compareNumbers
 number-order = record {

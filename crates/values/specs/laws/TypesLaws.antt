@@ -4,14 +4,15 @@ use native.Mathlib.Omega.{arith}
 use mathlib.Core.Bool.{Bool, true, false, cond, true≢false, false≢true}
 use mathlib.Core.List.{List, [], _∷_}
 use mathlib.Core.Logic.{_⊎_, inl, inr}
-use mathlib.Core.Path.{_≡_, refl, sym, _∙_}
+use mathlib.Core.Path.{_≡_, refl, sym, ap, _∙_}
 use lib.Dec.{eqb}
 use borrow.Author.Tests.{eqb-true, eq-eqb, ne-eqb}
 use Rattle.values.specs.Numbered.{Numbered, _is_, find}
 use Rattle.values.specs.Outcomes.{Res, ok, err, need, _>>=_, _>>_}
 use Rattle.values.specs.Transforms.{transforms, widthOf, transformOf}
-use Rattle.values.specs.Types.{types, typeNumber, contentSize, Layout, number, bytes, layout}
+use Rattle.values.specs.Types.{types, typeNumber, contentSize, Layout, number, bytes, layout, sameType}
 use Rattle.values.specs.code.TypeResults.{isBytes}
+use Rattle.values.specs.laws.OutcomeLaws.{ok-inj}
 use Rattle.values.specs.declared.datatypes.PrimitiveType.{PrimitiveType}
 use Rattle.values.specs.declared.datatypes.PrimitiveType.the-variants.{Int, Long, Date, Time, Timestamp, Timestamptz, TimestampNs, TimestamptzNs, String, Binary}
 use Rattle.values.specs.declared.error.ErrorKind.the-variants.{Malformed}
@@ -45,6 +46,9 @@ type-found TimestampNs = refl
 type-found TimestamptzNs = refl
 type-found String = refl
 type-found Binary = refl
+
+pub same-type : (a b : PrimitiveType) → sameType a b ≡ true → a ≡ b
+same-type a b e = ok-inj (sym (type-found a) ∙ ap (find types) (eqb-true (typeNumber a) (typeNumber b) e) ∙ type-found b)
 
 pub type-number : (n : ℕ) (t : PrimitiveType) → find types n ≡ ok t → typeNumber t ≡ n
 type-number n t e = found-number typeNumber types n t (refl, (refl, (refl, (refl, (refl, (refl, (refl, (refl, (refl, (refl, tt)))))))))) e

@@ -6,9 +6,10 @@ use mathlib.Core.Bool.{Bool, true, false, cond, false≢true}
 use mathlib.Core.List.{List, [], _∷_, _++_, append-assoc}
 use mathlib.Core.Path.{_≡_, refl, sym, ap, _∙_}
 use lib.ListN.{length, take}
+use Rattle.values.specs.SomeEvery.{every}
 use Rattle.values.specs.Utf8.{continues, isCodePoint, goesOn, before, codePoints, allCodePoints, utf8, concat, Octets}
 use Rattle.values.specs.laws.TestLaws.{and-both, both-and, same-test, clash}
-use Rattle.values.specs.laws.CodePointLaws.{every, code-point, never-empty, no-longer}
+use Rattle.values.specs.laws.CodePointLaws.{code-point, never-empty, no-longer}
 
 -- ---- the parts of any byte string
 

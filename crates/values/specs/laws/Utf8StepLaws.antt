@@ -7,10 +7,10 @@ use mathlib.Core.Path.{_≡_, refl, sym, ap, _∙_}
 use native.Mathlib.Numerals.{sub-one}
 use lib.Dec.{leb, ltb, eqb}
 use borrow.Author.Tests.{leb-true, ltb-true, ltb-false, le-leb, lt-leb, ne-eqb}
+use Rattle.values.specs.SomeEvery.{every}
 use Rattle.values.specs.Utf8.{Range, _to_, within, tail, forms, matches, anyForm, isCodePoint, codePoints, allCodePoints, utf8, concat}
 use Rattle.values.specs.code.Utf8Rests.{follows, ranges, awaited}
 use Rattle.values.specs.laws.TestLaws.{and-both, both-and, same-test}
-use Rattle.values.specs.laws.CodePointLaws.{every}
 use Rattle.values.specs.laws.Utf8Laws.{first-part, concat-code-points, utf8-concat, utf8-code-point}
 use Rattle.values.specs.declared.utf8.Rest.{Rest}
 
