@@ -3,9 +3,9 @@ use Prim.Native.Nat.{ℕ}
 use mathlib.Core.Bool.{Bool, true, false}
 use mathlib.Core.List.{List, [], _∷_}
 use Rattle.values.specs.declared.error.ErrorKind.{ErrorKind}
-use Rattle.values.specs.declared.error.ErrorKind.the-variants.{Malformed, NotUtf8, NoResultType, DataInvalid, FeatureUnsupported, Overflow, OutsideGrammar, TooLarge}
+use Rattle.values.specs.declared.error.ErrorKind.the-variants.{Malformed, NotUtf8, NoResultType, DataInvalid, FeatureUnsupported, Overflow, OutsideGrammar, TooLarge, WrongSummary}
 
--- document 01's numbers of the refusals; 2, the buffer's, comes before all of these and stands in `Routines` (`api`)
+-- document 01's numbers of the refusals, and 02's from 9 on; 2, the buffer's, comes before all of these and stands in `Routines` (`api`)
 abbrev pub errorNumber : ErrorKind → ℕ
 errorNumber Malformed = 3
 errorNumber NotUtf8 = 4
@@ -15,6 +15,7 @@ errorNumber FeatureUnsupported = 7
 errorNumber Overflow = 8
 errorNumber OutsideGrammar = 9
 errorNumber TooLarge = 10
+errorNumber WrongSummary = 11
 
 pub data Res (A : Type 0) : Type 0 where
   ok : A → Res A

@@ -17,6 +17,8 @@ pub enum ErrorKind {
     OutsideGrammar,
     // A filter has too many bytes, leaves or open brackets.
     TooLarge,
+    // The lowest end of a file's summary is above its highest, or its type is not the sheet's.
+    WrongSummary,
 }
 
 impl ErrorKind {
@@ -33,6 +35,7 @@ impl ErrorKind {
             ErrorKind::Overflow => 8,
             ErrorKind::OutsideGrammar => 9,
             ErrorKind::TooLarge => 10,
+            ErrorKind::WrongSummary => 11,
         }
     }
 }

@@ -11,7 +11,7 @@ use Rattle.values.specs.Outcomes.{Res, ok, err, errorNumber, each}
 use Rattle.values.specs.Types.{layout, sameType}
 use Rattle.values.specs.declared.datatypes.PrimitiveType.the-variants.{String}
 use Rattle.values.specs.declared.error.ErrorKind.{ErrorKind}
-use Rattle.values.specs.declared.error.ErrorKind.the-variants.{Malformed, NotUtf8, NoResultType, DataInvalid, FeatureUnsupported, Overflow, OutsideGrammar, TooLarge}
+use Rattle.values.specs.declared.error.ErrorKind.the-variants.{Malformed, NotUtf8, NoResultType, DataInvalid, FeatureUnsupported, Overflow, OutsideGrammar, TooLarge, WrongSummary}
 use Rattle.expr.specs.Operators.{byArity}
 use Rattle.expr.specs.Predicates.{operatorIn, literalsIn}
 use Rattle.projection.specs.declared.question.Question.{Question}
@@ -143,3 +143,4 @@ no-buffer question c t v = go (filterParts question c t v)
     go (err Overflow) e = omega arith
     go (err OutsideGrammar) e = omega arith
     go (err TooLarge) e = omega arith
+    go (err WrongSummary) e = omega arith

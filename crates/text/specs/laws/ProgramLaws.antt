@@ -10,7 +10,7 @@ use lib.Seq.{length-take-le}
 use borrow.Author.Tests.{lt-ltb, lt-leb}
 use Rattle.values.specs.Outcomes.{Res, ok, err, errorNumber, need, _>>_}
 use Rattle.values.specs.declared.error.ErrorKind.{ErrorKind}
-use Rattle.values.specs.declared.error.ErrorKind.the-variants.{Malformed, NotUtf8, NoResultType, DataInvalid, FeatureUnsupported, Overflow, OutsideGrammar, TooLarge}
+use Rattle.values.specs.declared.error.ErrorKind.the-variants.{Malformed, NotUtf8, NoResultType, DataInvalid, FeatureUnsupported, Overflow, OutsideGrammar, TooLarge, WrongSummary}
 use Rattle.expr.specs.Operators.{projectLimit}
 use Rattle.projection.specs.Steps.{Projected, some, none}
 use Rattle.projection.specs.declared.question.Question.{Question}
@@ -33,6 +33,7 @@ two-digits FeatureUnsupported = omega arith
 two-digits Overflow = omega arith
 two-digits OutsideGrammar = omega arith
 two-digits TooLarge = omega arith
+two-digits WrongSummary = omega arith
 
 number-digits : (r : Res (Projected (List ℕ))) → answerNumber (answerOf r) < 10 ^ 2
 number-digits (ok (some answer)) = omega arith
