@@ -1,0 +1,5 @@
+-- Lemmas that several proofs share.
+pub mod Searches
+pub mod Scans
+pub mod BetweenArms
+pub mod TextArms

@@ -1,0 +1,4 @@
+-- The laws about the definitions of `ends`.
+pub mod BetweenLaws
+pub mod PigeonholeLaws
+pub mod RuledOutLaws

@@ -1,0 +1,1 @@
+-- No definitions: what is to be shown is stated in `files`, and proved in `proofs/`.

@@ -1,0 +1,5 @@
+-- The definitions of `files`, in the order in which to read them.
+pub mod TestSummary
+pub mod FileDemand
+pub mod FileRequests
+pub mod laws

@@ -1,0 +1,2 @@
+-- The laws about the definitions of `files`.
+pub mod TestSummaryLaws

@@ -1,0 +1,2 @@
+// Files known only by their ends, over bytes.
+pub mod files;

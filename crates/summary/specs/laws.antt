@@ -1,0 +1,3 @@
+-- The laws about the definitions of `summary`.
+pub mod SummaryLaws
+pub mod EndLaws

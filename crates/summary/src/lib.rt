@@ -1,0 +1,2 @@
+// Summaries of files, read where they lie.
+pub mod summary;

@@ -1,0 +1,4 @@
+-- The laws about the definitions of `verdict`.
+pub mod OperatorVerdictLaws
+pub mod VerdictLaws
+pub mod JudgedLaws
