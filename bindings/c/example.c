@@ -3,28 +3,15 @@
  * of two weighings, and what is done with their files; then a filter over two columns, asked of weighings and of their partition
  * values. Prints what it finds and returns non-zero if that is not what it should be.
  */
-#include <stdio.h>
-#include <string.h>
-
-#include "weighpick.h"
+#include "example.h"
 
 enum {
     LOT_WIDTH = 4, /* of the beginnings of lots that split the table */
-    WIDTH = 10,    /* of the steps of grams that split it */
-    INT_LENGTH = 4,
-    SAMPLE_SIZE = 2 * WEIGHPICK_RECORD, /* a head and one literal */
-    COLUMNS = 2,                        /* that the filter can name: lot and grams */
-    LINE_SIZE = 80                      /* every line here is shorter */
+    COLUMNS = 2    /* that the filter can name: lot and grams */
 };
 
 /* The filter that a chef types. */
 static const char FILTER[] = "lot startswith 'ab' and not (grams < 300 or grams = 500)";
-
-/* What a projection wrote. */
-struct predicate {
-    uint8_t sheet[WEIGHPICK_SHEET_BUFFER];
-    uint64_t count;
-};
 
 /* One value record a column, side by side: of a weighing, or of the file that it lies in. */
 struct values {
@@ -32,70 +19,8 @@ struct values {
     uint8_t grams[WEIGHPICK_RECORD];
 };
 
-/* One of the two projections. */
-typedef uint32_t projection(const uint8_t *, size_t, uint8_t *, size_t, uint64_t *);
-
 /* One of the three routines of filters. */
 typedef uint32_t filter_routine(const uint8_t *, size_t, const uint8_t *, size_t, const uint8_t *, size_t);
-
-/* Writes the low `size` bytes of a number, little-endian. */
-static void put_number(uint8_t *at, size_t size, uint32_t number)
-{
-    for (size_t i = 0; i < size; i++) {
-        at[i] = (uint8_t)(number >> (8 * i));
-    }
-}
-
-/* Reads the `size` bytes of a number, at most 4. */
-static uint32_t get_number(const uint8_t *at, size_t size)
-{
-    uint32_t number = 0;
-    for (size_t i = 0; i < size; i++) {
-        number |= (uint32_t)at[i] << (8 * i);
-    }
-    return number;
-}
-
-/* Writes an Int as a literal or value record at the end of a chain. */
-static void put_int(uint8_t *record, int32_t value)
-{
-    memset(record, 0, WEIGHPICK_RECORD);
-    put_number(record + WEIGHPICK_LENGTH_AT, 2, INT_LENGTH);
-    put_number(record + WEIGHPICK_CONTENT_AT, INT_LENGTH, (uint32_t)value);
-}
-
-/* Writes a String of at most WEIGHPICK_CONTENT bytes as a literal or value record at the end of a chain. */
-static void put_string(uint8_t *record, const char *text)
-{
-    memset(record, 0, WEIGHPICK_RECORD);
-    put_number(record + WEIGHPICK_LENGTH_AT, 2, (uint32_t)strlen(text));
-    memcpy(record + WEIGHPICK_CONTENT_AT, text, strlen(text));
-}
-
-/* Reads the Int of a literal or value record. */
-static int32_t get_int(const uint8_t *record)
-{
-    uint32_t bits = get_number(record + WEIGHPICK_CONTENT_AT, INT_LENGTH);
-    return bits <= INT32_MAX ? (int32_t)bits : -(int32_t)~bits - 1;
-}
-
-/* Writes the head of a column under Truncate, with next and operator 0. */
-static void put_head(uint8_t *head, uint8_t column_type, uint32_t width)
-{
-    memset(head, 0, WEIGHPICK_RECORD);
-    head[WEIGHPICK_TYPE_AT] = column_type;
-    head[WEIGHPICK_TRANSFORM_AT] = WEIGHPICK_TRUNCATE;
-    put_number(head + WEIGHPICK_WIDTH_AT, 4, width);
-}
-
-/* Writes the sheet of the leaf `< limit` of an Int under Truncate. */
-static void put_sheet(uint8_t *sheet, int32_t limit)
-{
-    put_head(sheet, WEIGHPICK_INT, WIDTH);
-    put_number(sheet + WEIGHPICK_NEXT_AT, 2, 1);
-    put_number(sheet + WEIGHPICK_OPERATOR_AT, 2, WEIGHPICK_LESS_THAN);
-    put_int(sheet + WEIGHPICK_RECORD, limit);
-}
 
 /* Writes an entry of a column list; the name has at most WEIGHPICK_NAME letters. */
 static void put_column(uint8_t *entry, const char *name, uint8_t column_type, uint32_t width)
@@ -103,17 +28,6 @@ static void put_column(uint8_t *entry, const char *name, uint8_t column_type, ui
     memset(entry, 0, WEIGHPICK_NAME);
     memcpy(entry, name, strlen(name));
     put_head(entry + WEIGHPICK_NAME, column_type, width);
-}
-
-/* Prints a line and says whether it is the expected one. */
-static int print_line(const char *line, const char *expected)
-{
-    puts(line);
-    if (strcmp(line, expected) == 0) {
-        return 1;
-    }
-    fprintf(stderr, "expected: %s\n", expected);
-    return 0;
 }
 
 /* Asks one question and prints its line as program `weighpick` does. */

@@ -1,12 +1,15 @@
 /*
- * weighpick: leaf projection over weighing sheets, and filters, for C99 and C++.
+ * weighpick: leaf projection over weighing sheets, filters, and files known only by their ends, for C99 and C++.
  *
  * A sheet is a chain of records. Record 0, the head, says operator, column type, transform and width; every further record on
  * the chain is a literal. A projection answers with such a sheet, the predicate that partition values are tested with. A value is
  * one literal record. Numbers in records are little-endian, two's complement.
  *
  * A filter is a text, as `lot startswith 'ab' and not (grams < 300 or grams = 500)`, over a list of named columns; values are one
- * value record a column, side by side. docs/FORMAT.md says all of it, with examples.
+ * value record a column, side by side.
+ *
+ * A summary says what a file list knows of a file: the records of its lowest and highest partition value, their type, and whether
+ * a missing one occurs. docs/FORMAT.md says all of it, with examples.
  *
  * The routines take bytes of every kind, keep no state and may run on several threads at once. Any lent memory must be readable
  * (`out` and `count`: writable) for its whole length; no pointer may be null, also with a length of 0; `out` and `count` may not
@@ -16,7 +19,7 @@
 #define WEIGHPICK_H
 
 /* The version; bindings/rust/Cargo.toml has the same, and CHANGELOG.md says what it has. */
-#define WEIGHPICK_VERSION "0.4.0"
+#define WEIGHPICK_VERSION "0.5.0"
 
 #include <stddef.h>
 #include <stdint.h>
@@ -29,15 +32,23 @@ extern "C" {
 enum weighpick_answer {
     WEIGHPICK_RESULT = 0,              /* result written; for the holds-test and for a filter: yes */
     WEIGHPICK_NONE = 1,                /* no predicate; for the holds-test and for a filter: no */
-    WEIGHPICK_BUFFER_TOO_SMALL = 2,    /* result buffer under WEIGHPICK_SHEET_BUFFER (WEIGHPICK_VALUE_BUFFER for one value) */
-    WEIGHPICK_MALFORMED = 3,           /* malformed sheet, value or column list */
-    WEIGHPICK_NOT_UTF8 = 4,            /* a String literal or value is not UTF-8 */
+    WEIGHPICK_BUFFER_TOO_SMALL = 2,    /* result buffer under WEIGHPICK_SHEET_BUFFER, _VALUE_BUFFER or _VERDICT_BUFFER */
+    WEIGHPICK_MALFORMED = 3,           /* malformed sheet, value, summary or column list */
+    WEIGHPICK_NOT_UTF8 = 4,            /* a String literal, value or end is not UTF-8 */
     WEIGHPICK_NO_RESULT_TYPE = 5,      /* the transform does not apply to the column's type */
     WEIGHPICK_DATA_INVALID = 6,        /* calendar or width exceeded, where the crate iceberg answers DataInvalid */
     WEIGHPICK_FEATURE_UNSUPPORTED = 7, /* transform Unknown */
     WEIGHPICK_OVERFLOW = 8,            /* a number leaves its type, where the crate iceberg panics or wraps */
     WEIGHPICK_OUTSIDE_GRAMMAR = 9,     /* no filter, a name that is not in the list, or a literal that does not fit its column */
-    WEIGHPICK_TOO_LARGE = 10           /* over WEIGHPICK_TEXT bytes, WEIGHPICK_LEAVES leaves or WEIGHPICK_BRACKETS open brackets */
+    WEIGHPICK_TOO_LARGE = 10,          /* over WEIGHPICK_TEXT bytes, WEIGHPICK_LEAVES leaves or WEIGHPICK_BRACKETS open brackets */
+    WEIGHPICK_WRONG_SUMMARY = 11       /* a summary's lowest is above its highest, or its type is not the sheet's */
+};
+
+/* The byte that the test of a summary writes: what is done with the file. */
+enum weighpick_verdict {
+    WEIGHPICK_SKIP = 0, /* no value that the file may hold meets the predicate */
+    WEIGHPICK_READ = 1, /* some may */
+    WEIGHPICK_WHOLE = 2 /* all of them do; never said of a String or Binary */
 };
 
 /* Sizes, in bytes unless they count something else. */
@@ -60,8 +71,12 @@ enum weighpick_answer {
 #define WEIGHPICK_SHEET_BUFFER (WEIGHPICK_RECORD * (1 + WEIGHPICK_ANSWER_LITERALS))
 /* The least result buffer of one value's transform. */
 #define WEIGHPICK_VALUE_BUFFER WEIGHPICK_RECORD
+/* The least result buffer of a summary's test: a verdict. */
+#define WEIGHPICK_VERDICT_BUFFER 1
 /* An entry of a column list: a name, and a head with next and operator 0. */
 #define WEIGHPICK_COLUMN (WEIGHPICK_NAME + WEIGHPICK_RECORD)
+/* A summary: two value records, a type and a flag. */
+#define WEIGHPICK_SUMMARY (WEIGHPICK_FLAG_AT + 1)
 
 /* Where the fields of a record lie; the rest of a record is zero. */
 #define WEIGHPICK_NEXT_AT 0      /* 2 bytes: number of the next record on the chain, above this one's; 0 ends it */
@@ -71,6 +86,14 @@ enum weighpick_answer {
 #define WEIGHPICK_WIDTH_AT 8     /* head, 4 bytes: width, 0 unless the transform is Truncate */
 #define WEIGHPICK_LENGTH_AT 2    /* literal, 2 bytes: length of its content */
 #define WEIGHPICK_CONTENT_AT 4   /* literal: content */
+
+/* Where the parts of a summary lie. */
+#define WEIGHPICK_LOWEST_AT 0                             /* the record of the lowest present value */
+#define WEIGHPICK_HIGHEST_AT WEIGHPICK_RECORD             /* the record of the highest */
+#define WEIGHPICK_SUMMARY_TYPE_AT (2 * WEIGHPICK_RECORD)  /* 1 byte: the type of both */
+#define WEIGHPICK_FLAG_AT (WEIGHPICK_SUMMARY_TYPE_AT + 1) /* 1 byte: the sum of what holds of the two below */
+#define WEIGHPICK_HAS_MISSING 1                           /* a missing value occurs */
+#define WEIGHPICK_NONE_PRESENT 2                          /* no value is present; both records are marked missing */
 
 /* Operators; 101 to 104 take no literal, 201 to 208 one, 301 and 302 a set of any size up to the most. */
 enum weighpick_operator {
@@ -128,6 +151,13 @@ uint32_t weighpick_transform(uint8_t column_type, uint8_t transform, uint32_t wi
 
 /* Holds-test: whether a value meets a sheet's leaf, or a partition value an answer sheet's predicate. */
 uint32_t weighpick_holds(const uint8_t *sheet, size_t sheet_len, const uint8_t *value, size_t value_len);
+
+/*
+ * The test of a summary: one byte is written, a verdict on the file by a sheet's leaf, or by an answer sheet's predicate. By an
+ * inclusive predicate WEIGHPICK_SKIP says that no row of the file meets the leaf, by a strict one WEIGHPICK_WHOLE that all do.
+ */
+uint32_t weighpick_test_summary(const uint8_t *sheet, size_t sheet_len, const uint8_t *summary, size_t summary_len, uint8_t *out,
+                                size_t out_len, uint64_t *count);
 
 /*
  * Filters. `columns` is a list of 1 to WEIGHPICK_COLUMNS entries, `text` the filter's bytes, without a zero behind them, and

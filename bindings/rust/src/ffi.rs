@@ -43,6 +43,15 @@ extern "C" {
         value: *const u8,
         value_len: usize,
     ) -> u32;
+    fn weighpick_test_summary(
+        sheet: *const u8,
+        sheet_len: usize,
+        summary: *const u8,
+        summary_len: usize,
+        out: *mut u8,
+        out_len: usize,
+        count: *mut u64,
+    ) -> u32;
     fn weighpick_filter_row(
         columns: *const u8,
         columns_len: usize,
@@ -219,6 +228,28 @@ pub(crate) fn transform<T>(
 pub(crate) fn holds(sheet: &[u8], value: &[u8]) -> u32 {
     // SAFETY: both pointers come from live references and go with their slices' lengths; nothing is written.
     unsafe { weighpick_holds(sheet.as_ptr(), sheet.len(), value.as_ptr(), value.len()) }
+}
+
+/// The test of a summary into a lent buffer.
+pub(crate) fn test_summary_into(sheet: &[u8], summary: &[u8], out: &mut [u8]) -> Answer {
+    let mut count = 0;
+    // SAFETY: all pointers come from live references and go with their slices' lengths; `out` is borrowed exclusively, and `count`
+    // is a variable of its own.
+    let number = unsafe {
+        weighpick_test_summary(
+            sheet.as_ptr(),
+            sheet.len(),
+            summary.as_ptr(),
+            summary.len(),
+            out.as_mut_ptr(),
+            out.len(),
+            &mut count,
+        )
+    };
+    Answer {
+        number,
+        count: count as usize,
+    }
 }
 
 /// A filter's answer; gives document 01's number.

@@ -2,10 +2,11 @@
 
 use crate::ffi::Question;
 use crate::record::{EMPTY, LARGEST_SHEET, LITERALS};
-use crate::routines::{meets, project};
+use crate::routines::{meets, project, test_summary};
 use crate::sheets::Sheet;
 use crate::{
-    LeafError, Literal, Predicate, PredicateOperator, Refusal, Transform, Type, Value, ValueError,
+    LeafError, Literal, Predicate, PredicateOperator, Refusal, Summary, Transform, Type, Value,
+    ValueError, Verdict,
 };
 
 /// An operator with its literals on a column, and the transform that splits the table by this column.
@@ -171,5 +172,25 @@ impl Leaf {
         let mut record = EMPTY;
         value.put(self.column_type(), &mut record)?;
         Ok(meets(self.as_bytes(), &record))
+    }
+
+    /// What it says of rows by the summary of their values in this column, not of partition values: those are for
+    /// [`Picker::pick_summary`](crate::Picker::pick_summary). A summary of another type, or one whose lowest is above its highest,
+    /// is [`Refusal::WrongSummary`].
+    ///
+    /// ```
+    /// use weighpick::{Leaf, Refusal, Summary, Verdict};
+    ///
+    /// let leaf: Leaf = "date month IN (30, 31)".parse()?;
+    /// let rows = |text: &str| text.parse::<Summary>();
+    /// assert_eq!(leaf.test_summary(&rows("date 30 to 31")?), Ok(Verdict::Whole));
+    /// assert_eq!(leaf.test_summary(&rows("date 30 to 31, missing")?), Ok(Verdict::Read));
+    /// assert_eq!(leaf.test_summary(&rows("date 32 to 60")?), Ok(Verdict::Skip));
+    /// assert_eq!(leaf.test_summary(&rows("int 1 to 1")?), Err(Refusal::WrongSummary));
+    /// # Ok::<(), weighpick::Error>(())
+    /// ```
+    #[inline]
+    pub fn test_summary(&self, summary: &Summary) -> Result<Verdict, Refusal> {
+        test_summary(self.as_bytes(), summary.as_bytes())
     }
 }

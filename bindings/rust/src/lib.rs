@@ -22,14 +22,15 @@
 //! # Ok::<(), weighpick::Error>(())
 //! ```
 //!
-//! A file may be passed over only where [`Predicate::holds`] of the inclusive projection is `Ok(false)`. Without a predicate
-//! (`Ok(None)`), and after a [`Refusal`], every file is read. [`Picker::pick`] keeps this rule; a `?` after
+//! A file may be passed over only where [`Predicate::holds`] of the inclusive projection is `Ok(false)`, or its
+//! [`test_summary`](Predicate::test_summary) is `Ok(Verdict::Skip)`. Without a predicate (`Ok(None)`), and after a [`Refusal`],
+//! every file is read. [`Picker`] keeps this rule; where it refuses a summary, `.unwrap_or(Pick::Filter)` does. A `?` after
 //! [`project`](Leaf::project) would end the query instead.
 //!
 //! This crate only turns types into bytes and back. Every answer is given by the static library `weighpick_c`, whose routines are
 //! proved: they take bytes of every kind, keep no state and may be called from several threads at once. `docs/FORMAT.md` in the
-//! repository says what lies in sheets, records, filters and answers; "document 01" in these pages is the customer's paper behind
-//! it.
+//! repository says what lies in sheets, records, filters, summaries and answers; "document 01" in these pages is the customer's
+//! paper behind it, and "document 02" the one on filters and summaries.
 //!
 //! [`sheet`] has the same over bytes, for callers that keep their buffers. [`Error`] takes every error of this crate.
 //!
@@ -53,6 +54,23 @@
 //! }
 //! let row = columns.row(&["ab12x".into(), Literal::Int(501).into()])?;
 //! assert!(filter.row(&row)?);
+//! # Ok::<(), weighpick::Error>(())
+//! ```
+//!
+//! # Files known only by their ends
+//!
+//! A file list gives a [`Summary`] of each file: its lowest and its highest partition value, and whether a missing one occurs. A
+//! predicate's [`Verdict`] on it is about every value that such a file may hold; [`Picker::pick_summary`] keeps the rule above.
+//!
+//! ```
+//! use weighpick::{Leaf, Literal, Pick, Summary};
+//!
+//! // grams < 295, in a table split by grams in steps of 10
+//! let picker = "int truncate[10] < 295".parse::<Leaf>()?.picker();
+//! for (lowest, highest, expected) in [(0, 280, Pick::Whole), (0, 450, Pick::Filter), (300, 450, Pick::Skip)] {
+//!     let file = Summary::between(&Literal::Int(lowest), &Literal::Int(highest))?;
+//!     assert_eq!(picker.pick_summary(&file)?, expected);
+//! }
 //! # Ok::<(), weighpick::Error>(())
 //! ```
 
@@ -81,11 +99,14 @@ mod row_error;
 mod rows;
 pub mod sheet;
 mod sheets;
+mod summaries;
+pub mod summary;
 mod text;
 mod transform;
 mod types;
 mod value;
 mod value_error;
+mod verdict;
 
 pub use column_error::ColumnError;
 pub use columns::Columns;
@@ -101,7 +122,9 @@ pub use predicate::Predicate;
 pub use refusal::Refusal;
 pub use row_error::RowError;
 pub use rows::{Partition, Row};
+pub use summaries::Summary;
 pub use transform::Transform;
 pub use types::Type;
 pub use value::Value;
 pub use value_error::ValueError;
+pub use verdict::Verdict;

@@ -1,9 +1,9 @@
-//! The safe rule for a server: what is done with the file of a partition value.
+//! The safe rule for a server: what is done with a file, by its partition value or by a summary of its partition values.
 
 use crate::record::EMPTY;
-use crate::{Leaf, Predicate, Refusal, Type, Value, ValueError};
+use crate::{Leaf, Predicate, Refusal, Summary, Type, Value, ValueError, Verdict};
 
-/// What is done with a file, by its partition value, or by its partition values.
+/// What is done with a file, by its partition value, by its partition values, or by a summary of them.
 #[derive(Clone, Copy, Debug, PartialEq, Eq, Hash)]
 pub enum Pick {
     /// No row of it meets the leaf or filter: it is passed over.
@@ -14,7 +14,7 @@ pub enum Pick {
     Whole,
 }
 
-/// Both projections of a leaf, asked once, to pick files by their partition values. Made by [`Leaf::picker`].
+/// Both projections of a leaf, asked once, to pick files by their partition values or summaries. Made by [`Leaf::picker`].
 ///
 /// A file is skipped only where there is an inclusive predicate and it does not accept the partition value; it is taken whole only
 /// where there is a strict predicate and it does. So no row is lost where a projection has no predicate or was refused: then every
@@ -46,7 +46,7 @@ pub struct Picker {
 }
 
 impl Leaf {
-    /// Asks both projections, for picking files by their partition values.
+    /// Asks both projections, for picking files by their partition values or summaries.
     pub fn picker(&self) -> Picker {
         Picker {
             partition_type: self.transform().result_type(self.column_type()).ok(),
@@ -75,6 +75,51 @@ impl Picker {
         }
         if let Ok(Some(strict)) = &self.strict {
             if strict.holds_record(&record) {
+                return Ok(Pick::Whole);
+            }
+        }
+        Ok(Pick::Filter)
+    }
+
+    /// What is done with a file of which only the ends of its partition values are known.
+    ///
+    /// A summary of another type than the partition's, or one whose lowest is above its highest, is [`Refusal::WrongSummary`],
+    /// whether there is a predicate or not; such a file is to be read, which `.unwrap_or(Pick::Filter)` says. Where there is no
+    /// such type, every summary is answered [`Pick::Filter`].
+    ///
+    /// ```
+    /// use weighpick::{Leaf, Pick, Summary};
+    ///
+    /// let picker = "int truncate[10] < 295".parse::<Leaf>()?.picker();
+    /// for (file, expected) in [
+    ///     ("int 0 to 280", Pick::Whole),
+    ///     ("int 0 to 290", Pick::Filter), // there may be a row of 297
+    ///     ("int 0 to 280, missing", Pick::Filter),
+    ///     ("int 300 to 450, missing", Pick::Skip),
+    ///     ("int empty", Pick::Skip),
+    /// ] {
+    ///     assert_eq!(picker.pick_summary(&file.parse::<Summary>()?)?, expected);
+    /// }
+    /// # Ok::<(), weighpick::Error>(())
+    /// ```
+    pub fn pick_summary(&self, summary: &Summary) -> Result<Pick, Refusal> {
+        let Some(partition_type) = self.partition_type else {
+            return Ok(Pick::Filter);
+        };
+        // Without a predicate to ask, the summary is looked at all the same.
+        if !matches!(
+            (&self.inclusive, &self.strict),
+            (Ok(Some(_)), _) | (_, Ok(Some(_)))
+        ) {
+            summary.check(partition_type)?;
+        }
+        if let Ok(Some(inclusive)) = &self.inclusive {
+            if inclusive.test_summary(summary)? == Verdict::Skip {
+                return Ok(Pick::Skip);
+            }
+        }
+        if let Ok(Some(strict)) = &self.strict {
+            if strict.test_summary(summary)? == Verdict::Whole {
                 return Ok(Pick::Whole);
             }
         }

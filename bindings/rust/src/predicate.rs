@@ -1,9 +1,11 @@
 //! Predicates: what a projection answers, to be tested on partition values.
 
 use crate::record::{Record, EMPTY};
-use crate::routines::meets;
+use crate::routines::{meets, test_summary};
 use crate::sheets::Sheet;
-use crate::{Literal, PredicateOperator, Refusal, Transform, Type, Value, ValueError};
+use crate::{
+    Literal, PredicateOperator, Refusal, Summary, Transform, Type, Value, ValueError, Verdict,
+};
 
 /// An operator with its literals on a partition field.
 ///
@@ -77,5 +79,25 @@ impl Predicate {
     /// Whether it accepts the partition value in a record that [`Value::to_record`] wrote for its type.
     pub(crate) fn holds_record(&self, partition_value: &Record) -> bool {
         meets(self.as_bytes(), partition_value)
+    }
+
+    /// What it says of a file by the summary of its partition values. A summary of another type, or one whose lowest is above its
+    /// highest, is [`Refusal::WrongSummary`].
+    ///
+    /// ```
+    /// use weighpick::{Leaf, Literal, Summary, Verdict};
+    ///
+    /// // grams < 295, in a table split by grams in steps of 10
+    /// let leaf: Leaf = "int truncate[10] < 295".parse()?;
+    /// let read = leaf.project()?.expect("< has an inclusive projection"); // <= 290
+    /// let file = |lowest, highest| Summary::between(&Literal::Int(lowest), &Literal::Int(highest));
+    /// assert_eq!(read.test_summary(&file(300, 450)?)?, Verdict::Skip); // no row of it meets the leaf
+    /// assert_eq!(read.test_summary(&file(290, 450)?)?, Verdict::Read);
+    /// assert_eq!(read.test_summary(&file(0, 290)?)?, Verdict::Whole); // which says nothing of its rows: 297 lies at 290
+    /// # Ok::<(), weighpick::Error>(())
+    /// ```
+    #[inline]
+    pub fn test_summary(&self, summary: &Summary) -> Result<Verdict, Refusal> {
+        test_summary(self.as_bytes(), summary.as_bytes())
     }
 }

@@ -1,4 +1,4 @@
-//! Why the library refuses: document 01's answers 2 to 8, and 9 and 10, which filters add.
+//! Why the library refuses: document 01's answers 2 to 8, 9 and 10, which filters add, and 11, which summaries add.
 
 use std::error::Error;
 use std::fmt::{self, Display, Formatter};
@@ -17,12 +17,13 @@ use std::fmt::{self, Display, Formatter};
 #[non_exhaustive]
 #[repr(u32)]
 pub enum Refusal {
-    /// The result buffer is under [`SHEET_BUFFER`](crate::sheet::SHEET_BUFFER) bytes, or for one value under
-    /// [`VALUE_BUFFER`](crate::sheet::VALUE_BUFFER).
+    /// The result buffer is under [`SHEET_BUFFER`](crate::sheet::SHEET_BUFFER) bytes, for one value under
+    /// [`VALUE_BUFFER`](crate::sheet::VALUE_BUFFER), or for a verdict under
+    /// [`VERDICT_BUFFER`](crate::summary::VERDICT_BUFFER).
     BufferTooSmall = 2,
-    /// A sheet, a value or a column list against the rules of its format.
+    /// A sheet, a value, a summary or a column list against the rules of its format.
     Malformed = 3,
-    /// A String literal or value is not UTF-8.
+    /// A String literal, value or end is not UTF-8.
     NotUtf8 = 4,
     /// The transform has no result type for the column's type.
     NoResultType = 5,
@@ -38,11 +39,13 @@ pub enum Refusal {
     /// A text of more than [`TEXT`](crate::filter::TEXT) bytes, or a filter of more than [`LEAVES`](crate::filter::LEAVES) leaves
     /// or [`BRACKETS`](crate::filter::BRACKETS) open brackets.
     TooLarge = 10,
+    /// A summary whose lowest is above its highest, or whose type is not the sheet's.
+    WrongSummary = 11,
 }
 
 impl Refusal {
     /// All refusals, by number.
-    pub const ALL: [Refusal; 9] = [
+    pub const ALL: [Refusal; 10] = [
         Refusal::BufferTooSmall,
         Refusal::Malformed,
         Refusal::NotUtf8,
@@ -52,6 +55,7 @@ impl Refusal {
         Refusal::Overflow,
         Refusal::OutsideGrammar,
         Refusal::TooLarge,
+        Refusal::WrongSummary,
     ];
 
     /// Document 01's number.
@@ -59,7 +63,7 @@ impl Refusal {
         self as u32
     }
 
-    /// The refusal with one of document 01's numbers.
+    /// The refusal with one of the documents' numbers.
     pub fn from_number(number: u32) -> Option<Refusal> {
         Refusal::ALL.into_iter().find(|r| r.number() == number)
     }
@@ -69,7 +73,7 @@ impl Display for Refusal {
     fn fmt(&self, f: &mut Formatter<'_>) -> fmt::Result {
         f.write_str(match self {
             Refusal::BufferTooSmall => "the result buffer is too small",
-            Refusal::Malformed => "malformed sheet, value or column list",
+            Refusal::Malformed => "malformed sheet, value, summary or column list",
             Refusal::NotUtf8 => "a string is not UTF-8",
             Refusal::NoResultType => "the transform does not apply to the column's type",
             Refusal::DataInvalid => {
@@ -79,6 +83,9 @@ impl Display for Refusal {
             Refusal::Overflow => "a number leaves the range of its type",
             Refusal::OutsideGrammar => "the text is no filter over these columns",
             Refusal::TooLarge => "the filter has too many bytes, leaves or open brackets",
+            Refusal::WrongSummary => {
+                "the summary's lowest is above its highest, or its type is not the sheet's"
+            }
         })
     }
 }

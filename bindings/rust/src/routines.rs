@@ -1,8 +1,9 @@
 //! The routines over bytes, with the answer numbers as results.
 
-use crate::ffi::{self, Asked, Question, Setting};
+use crate::ffi::{self, Answer, Asked, Question, Setting};
 use crate::record::Record;
-use crate::{Refusal, Transform, Type};
+use crate::summaries::VERDICT_BUFFER;
+use crate::{Refusal, Transform, Type, Verdict};
 
 /// Document 01's answer 0: there is a result, or the answer is yes.
 const RESULT: u32 = 0;
@@ -111,6 +112,12 @@ pub fn transform_into<'a>(
     out: &'a mut [u8],
 ) -> Result<&'a [u8], Refusal> {
     let answer = ffi::transform_into(setting(transform, column_type), value, out);
+    written(answer, out)
+}
+
+/// What was written to a buffer, or a refusal, by the answer of a routine that writes whenever it does not refuse.
+#[inline]
+fn written(answer: Answer, out: &[u8]) -> Result<&[u8], Refusal> {
     match answer.number {
         RESULT => Ok(&out[..answer.count]),
         number => Err(refusal(number)),
@@ -136,6 +143,41 @@ fn said(number: u32) -> Result<bool, Refusal> {
 /// The holds-test of a sheet and a value that this crate wrote, of one type: neither is refused.
 pub(crate) fn meets(sheet: &[u8], value: &Record) -> bool {
     holds(sheet, value).expect("a sheet and a value of its type are well-formed")
+}
+
+/// The test of a summary: the verdict on a file by a sheet's leaf, or by an answer sheet's predicate. The sheet is one for the
+/// holds-test, of the summary's type; else, and where the lowest is above the highest, it is [`Refusal::WrongSummary`].
+///
+/// ```
+/// use weighpick::summary::test_summary;
+/// use weighpick::{Leaf, Literal, Refusal, Summary, Verdict};
+///
+/// let below_300: Leaf = "int identity < 300".parse()?;
+/// let file = Summary::between(&Literal::Int(290), &Literal::Int(310))?;
+/// assert_eq!(test_summary(below_300.as_bytes(), file.as_bytes()), Ok(Verdict::Read));
+/// assert_eq!(test_summary(below_300.as_bytes(), &[]), Err(Refusal::Malformed));
+/// # Ok::<(), weighpick::Error>(())
+/// ```
+#[inline]
+pub fn test_summary(sheet: &[u8], summary: &[u8]) -> Result<Verdict, Refusal> {
+    let mut out = [0; VERDICT_BUFFER];
+    let verdict = match test_summary_into(sheet, summary, &mut out)? {
+        [number] => Verdict::from_number(*number),
+        _ => None,
+    };
+    Ok(verdict.expect("the library writes the number of a verdict"))
+}
+
+/// The test of a summary into a lent buffer. One byte, the verdict's number, is written to the start of `out` and handed back;
+/// after a refusal `out` is left as it was. The rest is as for [`test_summary`].
+#[inline]
+pub fn test_summary_into<'a>(
+    sheet: &[u8],
+    summary: &[u8],
+    out: &'a mut [u8],
+) -> Result<&'a [u8], Refusal> {
+    let answer = ffi::test_summary_into(sheet, summary, out);
+    written(answer, out)
 }
 
 /// Whether a row meets a filter. `values` are the records of one value a column, in the order of the list; each has its column's

@@ -1,4 +1,4 @@
-//! Literals, values, leaves and predicates as text, written and read back.
+//! Literals, values, leaves and predicates as text, written and read back; summaries have theirs beside their type.
 //!
 //! ```text
 //! int 300                               a literal: its type and its content
@@ -21,7 +21,7 @@ use crate::{
 };
 
 /// How a missing value is written.
-const MISSING: &str = "missing";
+pub(crate) const MISSING: &str = "missing";
 
 impl Display for Literal {
     fn fmt(&self, f: &mut Formatter<'_>) -> fmt::Result {
@@ -123,7 +123,7 @@ fn write_condition(
 }
 
 /// The first word of a text, and what comes after the space.
-fn take_word<T: FromStr>(text: &str) -> Result<(T, &str), T::Err> {
+pub(crate) fn take_word<T: FromStr>(text: &str) -> Result<(T, &str), T::Err> {
     let (word, rest) = text.split_once(' ').unwrap_or((text, ""));
     Ok((word.parse()?, rest))
 }

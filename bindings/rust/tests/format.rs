@@ -7,7 +7,8 @@ use weighpick::filter::{
 use weighpick::sheet::{
     holds, project_into, ANSWER_LITERALS, CONTENT, LITERALS, RECORD, SHEET_BUFFER, VALUE_BUFFER,
 };
-use weighpick::{Columns, Filter, Leaf, Predicate, Refusal, Transform, Type};
+use weighpick::summary::{test_summary, SUMMARY, VERDICT_BUFFER};
+use weighpick::{Columns, Filter, Leaf, Predicate, Refusal, Summary, Transform, Type, Verdict};
 
 const PAGE: &str = include_str!("../../../docs/FORMAT.md");
 
@@ -58,7 +59,7 @@ fn the_sizes() {
     let leaf = format!("| 1 to {} | up to {LITERALS} |", 1 + LITERALS);
     let answer = format!("| 1 to {} | up to {ANSWER_LITERALS} |", 1 + ANSWER_LITERALS);
     let sizes = [
-        format!("fewer than {buffer} bytes, or fewer than {VALUE_BUFFER} for a value"),
+        format!("fewer than {buffer} bytes, or fewer than {VALUE_BUFFER} for a value or {VERDICT_BUFFER} for a verdict"),
         format!(
             "{text} bytes, or the filter more than {LEAVES} leaves or {BRACKETS} open brackets"
         ),
@@ -76,6 +77,12 @@ fn the_sizes() {
         format!("String and Binary, has at most {CONTENT} bytes"),
         format!("more than {text} bytes is 10"),
         format!("more than {LEAVES} leaves, or at some place more than {BRACKETS} brackets open"),
+        format!("It has {SUMMARY} bytes"),
+        format!("| 0 to {} | a value: the lowest", RECORD - 1),
+        format!("| {RECORD} to {} | a value: the highest", 2 * RECORD - 1),
+        format!("| {} | the type of both", SUMMARY - 2),
+        format!("| {} | flag", SUMMARY - 1),
+        format!("as the holds-test does, with up to {ANSWER_LITERALS} literals"),
     ];
     let page = PAGE.split_whitespace().collect::<Vec<_>>().join(" ");
     for size in sizes {
@@ -122,6 +129,24 @@ fn the_example_of_a_filter() {
     assert_eq!(filter_row(&list, text, &row), Ok(true));
     assert_eq!(filter_project(&list, text, &file), Ok(true));
     assert_eq!(filter_strict_project(&list, text, &file), Ok(false));
+}
+
+#[test]
+fn the_example_of_a_summary() {
+    let (sheets, records) = (records("An example"), records("An example of a summary"));
+    let [lowest, highest, type_and_flag, other_lowest] = records.as_slice() else {
+        panic!("four lines of bytes, and not {}", records.len());
+    };
+    let answer = [sheets[2], sheets[3]].concat();
+    for (lowest, text, verdict) in [
+        (lowest, "int 290 to 310, missing", Verdict::Read),
+        (other_lowest, "int 300 to 310, missing", Verdict::Skip),
+    ] {
+        let file = [&lowest[..], highest, &type_and_flag[..2]].concat();
+        let read = Summary::from_bytes(&file).expect("a summary");
+        assert_eq!(read.to_string(), text);
+        assert_eq!(test_summary(&answer, &file), Ok(verdict));
+    }
 }
 
 #[test]

@@ -4,7 +4,8 @@ use weighpick::filter::{BRACKETS, COLUMN, COLUMNS, LEAVES, NAME, TEXT};
 use weighpick::sheet::{
     ANSWER_LITERALS, CONTENT, LARGEST_SHEET, LITERALS, RECORD, SHEET_BUFFER, VALUE_BUFFER,
 };
-use weighpick::{PredicateOperator, Refusal, Transform, Type};
+use weighpick::summary::{SUMMARY, VERDICT_BUFFER};
+use weighpick::{Literal, PredicateOperator, Refusal, Summary, Transform, Type, Value, Verdict};
 
 const HEADER: &str = include_str!("../../c/weighpick.h");
 
@@ -75,6 +76,8 @@ fn sizes() {
         ("TEXT", TEXT),
         ("LEAVES", LEAVES),
         ("BRACKETS", BRACKETS),
+        ("SUMMARY", SUMMARY),
+        ("VERDICT_BUFFER", VERDICT_BUFFER),
     ];
     for (name, size) in sizes {
         assert_eq!(in_header(name), Some(size), "{name}");
@@ -95,6 +98,10 @@ fn numbers() {
         let number = in_header(&c_name(refusal));
         assert_eq!(number, Some(refusal.number() as usize), "{refusal:?}");
     }
+    for verdict in Verdict::ALL {
+        let number = in_header(&c_name(verdict));
+        assert_eq!(number, Some(verdict.number().into()), "{verdict:?}");
+    }
     assert_eq!(in_header("RESULT"), Some(0));
     assert_eq!(in_header("NONE"), Some(1));
 }
@@ -108,4 +115,32 @@ fn transforms() {
             assert_eq!(in_header, Some(number.into()), "{transform:?}");
         }
     }
+}
+
+/// The parts of a summary that the header names lie where this crate writes them.
+#[test]
+fn parts_of_a_summary() {
+    let at = |name| in_header(name).expect(name);
+    let literals = [Literal::Long(i64::MIN), Literal::Long(i64::MAX)];
+    let [lowest, highest] = &literals;
+    let file = Summary::between(lowest, highest).expect("two values of one type");
+    for (name, end) in [("LOWEST_AT", lowest), ("HIGHEST_AT", highest)] {
+        let record = Value::from(end.clone()).to_record(Type::Long);
+        let bytes = &file.as_bytes()[at(name)..][..RECORD];
+        assert_eq!(record.as_ref().map(|r| &r[..]), Ok(bytes), "{name}");
+    }
+    let type_and_flag = |file: &Summary| {
+        let place = |name| usize::from(file.as_bytes()[at(name)]);
+        (place("SUMMARY_TYPE_AT"), place("FLAG_AT"))
+    };
+    let (missing, none) = (at("HAS_MISSING"), at("NONE_PRESENT"));
+    assert_eq!(type_and_flag(&file), (at("LONG"), 0));
+    assert_eq!(
+        type_and_flag(&file.with_missing(true)),
+        (at("LONG"), missing)
+    );
+    let empty = Summary::empty(Type::Binary);
+    assert_eq!(type_and_flag(&empty), (at("BINARY"), none));
+    let both = type_and_flag(&empty.with_missing(true));
+    assert_eq!(both, (at("BINARY"), none + missing));
 }

@@ -1,9 +1,12 @@
-//! Filters are asked without memory from the heap, and rows and partition values of numbers are built without.
+//! Filters are asked, and files picked by summaries, without memory from the heap; rows, partition values and summaries of numbers are
+//! built without.
 
 use std::alloc::{GlobalAlloc, Layout, System};
 use std::cell::Cell;
 
-use weighpick::{Columns, Error, Filter, Literal, Transform, Type, Value};
+use weighpick::{
+    Columns, Error, Filter, Leaf, Literal, Pick, Refusal, Summary, Transform, Type, Value,
+};
 
 thread_local! {
     /// How often this thread has asked for memory.
@@ -65,6 +68,26 @@ fn no_memory_is_asked_for() -> Result<(), Error> {
         });
         assert_eq!(counted, 0, "{text}: {answers:?}");
         assert!(answers.is_ok());
+    }
+    Ok(())
+}
+
+#[test]
+fn files_are_picked_without() -> Result<(), Error> {
+    let picker = "int truncate[10] IN (5, 15, 25)".parse::<Leaf>()?.picker();
+    let wrong = Err(Refusal::WrongSummary);
+    for (lowest, highest, expected) in [
+        (0, 20, Ok(Pick::Filter)),
+        (10, 300, Ok(Pick::Filter)),
+        (100, 300, Ok(Pick::Skip)),
+        (2, 1, wrong),
+    ] {
+        let (counted, picked) = asked(|| {
+            let file = Summary::between(&Literal::Int(lowest), &Literal::Int(highest))?;
+            Ok::<_, Error>(picker.pick_summary(&file.with_missing(true)))
+        });
+        assert_eq!(counted, 0, "{lowest} to {highest}: {picked:?}");
+        assert_eq!(picked?, expected, "{lowest} to {highest}");
     }
     Ok(())
 }

@@ -4,6 +4,7 @@ use weighpick::filter::{BRACKETS, COLUMN, COLUMNS, LEAVES, NAME, TEXT};
 use weighpick::sheet::{
     Sheet, ANSWER_LITERALS, CONTENT, LARGEST_SHEET, LITERALS, RECORD, SHEET_BUFFER, VALUE_BUFFER,
 };
+use weighpick::summary::{SUMMARY, VERDICT_BUFFER};
 use weighpick::{Leaf, LeafError, Literal, PredicateOperator, Refusal, Transform, Type};
 
 /// In of some Ints.
@@ -27,11 +28,12 @@ fn the_sizes_of_document_01() {
     );
 }
 
-/// And as the paper on filters has them.
+/// And as the paper on filters and summaries has them.
 #[test]
 fn the_sizes_of_document_02() {
     assert_eq!((NAME, COLUMN, COLUMNS), (16, 16 + RECORD, 8));
     assert_eq!((TEXT, LEAVES, BRACKETS), (4096, 32, 16));
+    assert_eq!((SUMMARY, VERDICT_BUFFER), (2 * RECORD + 2, 1));
 }
 
 #[test]

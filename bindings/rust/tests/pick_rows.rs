@@ -6,9 +6,9 @@ use std::collections::{BTreeMap, BTreeSet};
 use std::ops::RangeInclusive;
 
 use support::meets::meets;
-use support::number;
 use support::sample::Random;
-use weighpick::{Leaf, Literal, Pick, PredicateOperator, Transform, Type, Value};
+use support::{leaves_of, number};
+use weighpick::{Literal, Pick, Transform, Type, Value};
 
 /// The values of a number type in a small range.
 fn numbers(column_type: Type, range: RangeInclusive<i64>) -> Vec<Value> {
@@ -62,8 +62,9 @@ fn small_world(
             Value::Missing => None,
         })
         .collect();
+    let sets: Vec<Vec<Literal>> = literals.windows(2).map(<[Literal]>::to_vec).collect();
     let mut picks = BTreeMap::new();
-    for leaf in leaves(column_type, transform, &literals) {
+    for leaf in leaves_of(column_type, transform, &literals, &sets) {
         let picker = leaf.picker();
         for (value, rows) in files.values() {
             let picked = picker.pick(value).expect("a value of the partition's type");
@@ -77,29 +78,6 @@ fn small_world(
         }
     }
     picks
-}
-
-/// Every leaf without a literal, every one with one of some literals, and sets of two.
-fn leaves(column_type: Type, transform: Transform, literals: &[Literal]) -> Vec<Leaf> {
-    let mut leaves = Vec::new();
-    for operator in PredicateOperator::ALL {
-        if operator.is_unary() {
-            leaves.push(Leaf::unary(operator, column_type, transform));
-        } else if operator.is_binary() {
-            leaves.extend(
-                literals
-                    .iter()
-                    .map(|l| Leaf::binary(operator, transform, l)),
-            );
-        } else {
-            let sets = literals.windows(2);
-            leaves.extend(sets.map(|set| Leaf::set(operator, column_type, transform, set)));
-        }
-    }
-    leaves
-        .into_iter()
-        .map(|leaf| leaf.expect("within the limits"))
-        .collect()
 }
 
 #[test]

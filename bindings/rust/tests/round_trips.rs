@@ -18,7 +18,7 @@ fn numbers() {
     assert!(operators.eq(PredicateOperator::ALL));
     let refusals = (0..=u32::from(u16::MAX)).filter_map(Refusal::from_number);
     assert!(refusals.eq(Refusal::ALL));
-    assert!((2..=10).eq(Refusal::ALL.map(Refusal::number)));
+    assert!((2..=11).eq(Refusal::ALL.map(Refusal::number)));
     for transform in TRANSFORMS {
         let again = Transform::from_numbers(transform.number(), transform.width());
         assert_eq!(again, Some(transform));

@@ -4,6 +4,7 @@ use api::holds::holds;
 use api::literal::transform_literal;
 use api::project::project;
 use api::project::strict_project;
+use files::files::test_summary;
 use filter::filter::filter_project;
 use filter::filter::filter_row;
 use filter::filter::filter_strict_project;
@@ -13,6 +14,7 @@ ghost use Rattle.answers.specs.Answers.{answerNumber, answerCount};
 ghost use Rattle.meets.specs.Tested.{heldAs, heldNumber};
 ghost use Rattle.api.specs.HoldsTest.{holdsTest};
 ghost use Rattle.api.specs.Routines.{projectAnswer, projectLeaves, transformAnswer, transformLeaves};
+ghost use Rattle.files.specs.TestSummary.{testAnswer, testLeaves};
 ghost use Rattle.filter.specs.FilterRoutines.{filterRow, filterParts};
 
 // Sets the count of an answer, and gives its number.
@@ -66,6 +68,20 @@ pub extern "C" fn weighpick_holds(sheet: &[u8], value: &[u8]) -> u32
     ensures { λ r. ⌜ r ≡ heldNumber (heldAs (holdsTest (now (sheet .entry)) (now (value .entry)))) ⌝ }
 {
     holds(sheet, value).number()
+}
+
+#[no_mangle]
+pub extern "C" fn weighpick_test_summary(
+    sheet: &[u8],
+    summary: &[u8],
+    out: &mut [u8],
+    count: &mut u64,
+) -> u32
+    ensures number { λ r. ⌜ r ≡ answerNumber (testAnswer (now (sheet .entry)) (now (summary .entry)) (now (out .entry))) ⌝ }
+    ensures written { λ _. ⌜ now (count .exit) ≡ answerCount (testAnswer (now (sheet .entry)) (now (summary .entry)) (now (out .entry))) ⌝ }
+    ensures buffer { λ _. ⌜ now (out .exit) ≡ testLeaves (now (sheet .entry)) (now (summary .entry)) (now (out .entry)) ⌝ }
+{
+    told(test_summary(sheet, summary, out), count)
 }
 
 #[no_mangle]

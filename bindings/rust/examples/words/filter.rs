@@ -2,13 +2,7 @@
 
 use weighpick::{Columns, Error, Filter, Refusal, RowError, Transform, Type, Value};
 
-use super::{column_type, literal, take, text, transform};
-
-/// What stands between the columns and the values.
-const VALUES: &str = "--";
-
-/// How a missing value is said and printed.
-const MISSING: &str = "missing";
+use super::{column_type, literal, take, text, transform, BREAK, MISSING};
 
 /// A column: its name, its type and its transform.
 type Column<'a> = (&'a str, Type, Transform);
@@ -24,7 +18,7 @@ pub struct Asked {
 pub fn asked(words: &[impl AsRef<str>]) -> Result<Asked, String> {
     let mut words = words.iter().map(AsRef::as_ref);
     let text = take(&mut words, "filter")?.to_string();
-    let columns = words.by_ref().take_while(|word| *word != VALUES);
+    let columns = words.by_ref().take_while(|word| *word != BREAK);
     let columns: Result<Vec<Column<'_>>, String> = columns.map(column).collect();
     let columns = Columns::new(columns?).map_err(|wrong| wrong.to_string())?;
     let words: Vec<&str> = words.collect();

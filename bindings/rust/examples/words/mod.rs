@@ -10,6 +10,9 @@ use std::str::FromStr;
 
 use weighpick::{Literal, ParseError, Transform, Type};
 
+#[cfg(test)]
+mod file_tests;
+pub mod files;
 pub mod filter;
 pub mod leaf;
 #[cfg(test)]
@@ -17,6 +20,12 @@ mod tests;
 
 /// How an empty string or binary is printed, and an empty binary read.
 const EMPTY: &str = "-";
+
+/// How a missing value is said and printed.
+const MISSING: &str = "missing";
+
+/// What stands between what is asked and the values or files that it is asked of.
+const BREAK: &str = "--";
 
 /// The exit status after wrong words.
 const WRONG_WORDS: u8 = 2;

@@ -40,7 +40,7 @@ fn meets_one(operator: PredicateOperator, value: &Literal, literal: &Literal) ->
 }
 
 /// Numbers signed, strings and binaries by byte.
-fn compare(a: &Literal, b: &Literal) -> Ordering {
+pub fn compare(a: &Literal, b: &Literal) -> Ordering {
     match (number_of(a), number_of(b)) {
         (Some(a), Some(b)) => a.cmp(&b),
         _ => bytes_of(a).cmp(bytes_of(b)),
@@ -53,7 +53,7 @@ fn starts_with(value: &Literal, literal: &Literal) -> bool {
 }
 
 /// The bytes of a string or binary.
-fn bytes_of(literal: &Literal) -> &[u8] {
+pub fn bytes_of(literal: &Literal) -> &[u8] {
     match literal {
         Literal::String(text) => text.as_bytes(),
         Literal::Binary(bytes) => bytes,

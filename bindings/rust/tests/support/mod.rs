@@ -3,12 +3,13 @@
 // Each test is a program of its own and uses a part of this module.
 #![allow(dead_code)]
 
+pub mod files;
 pub mod filters;
 pub mod meets;
 pub mod sample;
 
 use weighpick::sheet::{project_into, strict_project_into, SHEET_BUFFER};
-use weighpick::{Literal, Predicate, PredicateOperator, Refusal, Transform, Type};
+use weighpick::{Leaf, Literal, Predicate, PredicateOperator, Refusal, Transform, Type};
 
 /// What a buffer holds before a call, so that a byte written to it shows.
 pub const BEFORE: u8 = 0xa5;
@@ -77,4 +78,29 @@ pub fn both(sheet: &[u8]) -> [Result<Option<Vec<u8>>, Refusal>; 2] {
         assert!(out[written..].iter().all(|&byte| byte == BEFORE));
         answer
     })
+}
+
+/// Every leaf without a literal, every one with one of some literals, and every one with one of some sets.
+pub fn leaves_of(
+    column_type: Type,
+    transform: Transform,
+    literals: &[Literal],
+    sets: &[Vec<Literal>],
+) -> Vec<Leaf> {
+    let mut leaves = Vec::new();
+    for operator in PredicateOperator::ALL {
+        if operator.is_unary() {
+            leaves.push(Leaf::unary(operator, column_type, transform));
+        } else if operator.is_binary() {
+            let binary = |literal| Leaf::binary(operator, transform, literal);
+            leaves.extend(literals.iter().map(binary));
+        } else {
+            let set = |set| Leaf::set(operator, column_type, transform, set);
+            leaves.extend(sets.iter().map(set));
+        }
+    }
+    leaves
+        .into_iter()
+        .map(|leaf| leaf.expect("within the limits"))
+        .collect()
 }

@@ -1,0 +1,33 @@
+//! Verdicts: what the test of a summary says of a file.
+
+/// What a predicate says of a file by its summary. Of strings and binaries [`Whole`](Verdict::Whole) is never said.
+///
+/// By a leaf it is about the values of the file themselves. By the predicate of a projection, and a summary of partition values, it
+/// is about rows in part: [`Skip`](Verdict::Skip) by an inclusive predicate says that no row of the file meets the leaf, and
+/// [`Whole`](Verdict::Whole) by a strict one that all do. [`Picker::pick_summary`](crate::Picker::pick_summary) goes by both.
+#[derive(Clone, Copy, Debug, PartialEq, Eq, Hash)]
+#[repr(u8)]
+pub enum Verdict {
+    /// No value that the file may hold is accepted.
+    Skip = 0,
+    /// Some may be.
+    Read = 1,
+    /// All of them are.
+    Whole = 2,
+}
+
+impl Verdict {
+    /// All verdicts, by number.
+    pub const ALL: [Verdict; 3] = [Verdict::Skip, Verdict::Read, Verdict::Whole];
+
+    /// Document 02's number, the byte that is written.
+    pub fn number(self) -> u8 {
+        self as u8
+    }
+
+    /// The verdict with one of document 02's numbers.
+    #[inline]
+    pub fn from_number(number: u8) -> Option<Verdict> {
+        Verdict::ALL.get(usize::from(number)).copied()
+    }
+}
