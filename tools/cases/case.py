@@ -2,9 +2,10 @@
 import collections
 
 import model
-from model import SHEET_ROOM, VALUE_ROOM
+from model import SHEET_ROOM, VALUE_ROOM, VERDICT_ROOM
 
-HOLDS, PROJECT, STRICT_PROJECT, TRANSFORM, TEXT, PROGRAM, FILTER_ROW, FILTER_PROJECT, FILTER_STRICT_PROJECT = range(9)
+HOLDS, PROJECT, STRICT_PROJECT, TRANSFORM, TEXT, PROGRAM = range(6)
+FILTER_ROW, FILTER_PROJECT, FILTER_STRICT_PROJECT, TEST_SUMMARY = range(6, 10)
 Case = collections.namedtuple("Case", "group routine number column transform width inputs result lent")
 
 
@@ -52,3 +53,10 @@ class Cases:
     def filtered(self, group, routine, number, inputs, told):
         assert told in (None, number), (group, routine, number, inputs, told)
         self.all.append(Case(group, routine, number, 0, 0, 0, inputs, b"", 0))
+
+    def summary(self, group, sheet, summary, lent=None, told=None):
+        """`told` is the number and the verdict."""
+        lent = self.lent(VERDICT_ROOM) if lent is None else lent
+        number, result = model.test_summary(sheet, summary, lent)
+        assert told in (None, (number, *result)), (group, sheet, summary, told)
+        self.all.append(Case(group, TEST_SUMMARY, number, 0, 0, 0, [sheet, summary], result, lent))

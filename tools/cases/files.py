@@ -38,6 +38,13 @@ GROUPS = {
     30: "filters: at random",
     31: "filters: one byte damaged",
     32: "lots kept as Binary",
+    33: "summaries: every operator, kind and flag",
+    34: "summaries: around the literals",
+    35: "summaries: sets",
+    36: "summaries: texts",
+    37: "summaries: refusals in order",
+    38: "summaries: one byte damaged",
+    39: "summaries: at random",
 }
 HEADER, INPUTS = struct.Struct("<BBBBBxIHHHHH"), 3
 

@@ -1,23 +1,28 @@
-"""model: document 01, with document 02's filters and Binaries, in Python, from their text alone; it shares nothing with the
-crates.
+"""model: document 01, with document 02's filters, Binaries and summaries, in Python, from their text alone; it shares nothing with
+the crates.
 
 `holds`, `project` and `transform` are the routines: bytes in, document 01's number and the result's bytes out (none after any
-number but 0). `filter_row` and `filter_project` are those of filters, which write nothing. `printed` is program `weighpick`,
-from the bytes that it reads to those that it prints. Within, a number is an int and a String or Binary is bytes; a refusal is
-raised as `Refused` with its number.
+number but 0). `filter_row` and `filter_project` are those of filters, which write nothing. `test_summary` is that of files known
+by their ends. `printed` is program `weighpick`, from the bytes that it reads to those that it prints. Within, a number is an int
+and a String or Binary is bytes; a refusal is raised as `Refused` with its number.
 
-The parts, the lowest first: codes, sheets, transforms, projections, routines, program; of filters: columns, texts, filters."""
+The parts, the lowest first: codes, sheets, transforms, projections, routines, program; of filters: columns, texts, filters; of
+files known by their ends: summaries, verdicts, checks."""
 from .codes import (
     RECORD, CONTENT, MISSING, BEFORE_WIDTH, AFTER_WIDTH, LITERALS, ANSWER_LITERALS, LARGEST_SHEET, SHEET_ROOM,
-    VALUE_ROOM, NAME, COLUMNS, ENTRY, TEXT_BYTES, LEAVES, BRACKETS, INT, LONG, DATE, TIME, TS, TSTZ, TSNS, TSTZNS, STRING,
-    BINARY, TYPES, IDENTITY, TRUNCATE, YEAR, MONTH, DAY, HOUR, VOID, UNKNOWN, TRANSFORMS, IS_NULL, NOT_NULL, UNARY, LT,
-    LE, GT, GE, EQ, NOT_EQ, STARTS, NOT_STARTS, ONE_LITERAL, IN, NOT_IN, SETS, OPERATORS, MICROS, NANOS, Refused,
-    is_number, range_of, literal_bytes,
+    VALUE_ROOM, NAME, COLUMNS, ENTRY, TEXT_BYTES, LEAVES, BRACKETS, TYPE_AT, FLAG_AT, SUMMARY, VERDICT_ROOM, INT, LONG,
+    DATE, TIME, TS, TSTZ, TSNS, TSTZNS, STRING, BINARY, TYPES, IDENTITY, TRUNCATE, YEAR, MONTH, DAY, HOUR, VOID, UNKNOWN,
+    TRANSFORMS, IS_NULL, NOT_NULL, IS_NAN, NOT_NAN, UNARY, LT, LE, GT, GE, EQ, NOT_EQ, STARTS, NOT_STARTS, ONE_LITERAL,
+    IN, NOT_IN, SETS, OPERATORS, SKIP, READ, WHOLE, MICROS, NANOS, Refused, is_number, range_of, read_literal,
+    literal_bytes,
 )
+from .checks import check_numbers, check_texts
 from .columns import WORDS, part_type, entry, values_of
 from .filters import filter_row, filter_project
 from .program import printed
 from .routines import holds, project, transform
-from .sheets import record, value_record, sheet_of, answer_sheet
+from .sheets import read_value, record, value_record, sheet_of, answer_sheet
+from .summaries import summary_of
 from .texts import SIGNS
 from .transforms import PER_SECOND, FIRST_DAY, LAST_DAY, result_type, day_number
+from .verdicts import test_summary

@@ -1,4 +1,5 @@
-"""Document 01's numbers: sizes, types, transforms, operators and refusals; and a type's literals as bytes. Sizes of filters."""
+"""Document 01's numbers: sizes, types, transforms, operators and refusals; and a type's literals as bytes. Sizes of filters and of
+summaries."""
 
 RECORD, CONTENT_AT, MISSING = 64, 4, 65535
 CONTENT = RECORD - CONTENT_AT
@@ -11,6 +12,9 @@ SHEET_ROOM, VALUE_ROOM = RECORD * ANSWER_RECORDS, RECORD
 NAME, COLUMNS = 16, 8  # a column's name in a list, and the most columns of one
 ENTRY = NAME + RECORD
 TEXT_BYTES, LEAVES, BRACKETS = 4096, 32, 16  # the most of a filter; brackets that are open at one place
+TYPE_AT = 2 * RECORD  # in a summary: two value records, a type byte and a flag byte
+FLAG_AT, SUMMARY = TYPE_AT + 1, TYPE_AT + 2
+VERDICT_ROOM = 1
 
 INT, LONG, DATE, TIME, TS, TSTZ, TSNS, TSTZNS, STRING, BINARY = TYPES = range(1, 11)
 IDENTITY, TRUNCATE, YEAR, MONTH, DAY, HOUR, VOID, UNKNOWN = TRANSFORMS = range(0, 8)
@@ -18,6 +22,8 @@ IS_NULL, NOT_NULL, IS_NAN, NOT_NAN = UNARY = range(101, 105)
 LT, LE, GT, GE, EQ, NOT_EQ, STARTS, NOT_STARTS = ONE_LITERAL = range(201, 209)
 IN, NOT_IN = SETS = range(301, 303)
 OPERATORS = [*UNARY, *ONE_LITERAL, *SETS]
+HAS_MISSING, NONE_PRESENT = 1, 2  # what a summary's flag is the sum of
+SKIP, READ, WHOLE = range(3)
 
 MICROS, NANOS = (TS, TSTZ), (TSNS, TSTZNS)
 I32 = range(-(2**31), 2**31)

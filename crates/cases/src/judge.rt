@@ -4,6 +4,7 @@ use api::holds::holds;
 use api::literal::transform_literal;
 use api::project::project;
 use api::project::strict_project;
+use files::files::test_summary;
 use filter::filter::filter_project;
 use filter::filter::filter_row;
 use filter::filter::filter_strict_project;
@@ -12,7 +13,7 @@ use text::program::OUTPUT_SIZE;
 use text::program::print_sheet;
 use values::order::starts_with;
 
-// The routines' numbers in a case; any other below the filters' is the transform of one value.
+// The routines' numbers in a case; any other is the transform of one value.
 const HOLDS_TEST: u8 = 0;
 
 const INCLUSIVE: u8 = 1;
@@ -22,10 +23,13 @@ const STRICT: u8 = 2;
 // Not a routine, but all that program `weighpick` prints.
 const PROGRAM: u8 = 5;
 
-// Filters have the highest numbers; the one after these is the strict question.
 const FILTER_ROW: u8 = 6;
 
 const FILTER_INCLUSIVE: u8 = 7;
+
+const FILTER_STRICT: u8 = 8;
+
+const TEST_SUMMARY: u8 = 9;
 
 // What a lent buffer holds before the call: a byte that steps from place to place, so that bytes that were moved show too.
 const FIRST_FILLER: u8 = 165;
@@ -69,28 +73,37 @@ fn is_filled_from(count: usize, out: &[u8]) -> bool {
     true
 }
 
-// Asks one of the three routines that write a result.
-fn ask(question: Question, input: &[u8], out: &mut [u8]) -> Answer {
+// Asks one of the four routines that write a result; the test of a summary takes both inputs, the others the first.
+fn ask(question: Question, first: &[u8], second: &[u8], out: &mut [u8]) -> Answer {
     let routine = question.routine;
     if routine == INCLUSIVE {
-        return project(input, out);
+        return project(first, out);
     }
     if routine == STRICT {
-        return strict_project(input, out);
+        return strict_project(first, out);
+    }
+    if routine == TEST_SUMMARY {
+        return test_summary(first, second, out);
     }
     transform_literal(
         question.column_type,
         question.transform,
         question.width,
-        input,
+        first,
         out,
     )
 }
 
 // Whether such a routine, lent this buffer, gives the number expected, counts and writes the result, and leaves every later byte.
-fn is_right_in(question: Question, input: &[u8], result: &[u8], out: &mut [u8]) -> bool {
+fn is_right_in(
+    question: Question,
+    first: &[u8],
+    second: &[u8],
+    result: &[u8],
+    out: &mut [u8],
+) -> bool {
     fill(out);
-    let answer = ask(question, input, out);
+    let answer = ask(question, first, second, out);
     if answer.number() != question.expected as u32 {
         return false;
     }
@@ -104,12 +117,18 @@ fn is_right_in(question: Question, input: &[u8], result: &[u8], out: &mut [u8]) 
 }
 
 // The same, lent the first bytes of some space, as many as the case says.
-fn is_right_within(question: Question, input: &[u8], result: &[u8], space: &mut [u8]) -> bool {
+fn is_right_within(
+    question: Question,
+    first: &[u8],
+    second: &[u8],
+    result: &[u8],
+    space: &mut [u8],
+) -> bool {
     let lent = question.lent;
     if space.len() < lent {
         return false;
     }
-    is_right_in(question, input, result, &mut space[..lent])
+    is_right_in(question, first, second, result, &mut space[..lent])
 }
 
 // Whether the holds-test gives the number expected; it has no result.
@@ -118,6 +137,13 @@ fn is_held(expected: u8, sheet: &[u8], value: &[u8], result: &[u8]) -> bool {
         return false;
     }
     holds(sheet, value).number() == expected as u32
+}
+
+fn is_filter(routine: u8) -> bool {
+    if routine < FILTER_ROW {
+        return false;
+    }
+    routine <= FILTER_STRICT
 }
 
 // Asks one of the three routines of filters.
@@ -167,21 +193,24 @@ pub fn is_right(
     third: &[u8],
     result: &[u8],
 ) -> bool {
-    if FILTER_ROW <= question.routine {
+    let routine = question.routine;
+    if is_filter(routine) {
         return is_filtered(question, first, second, third, result);
     }
     if third.len() != 0 {
         return false;
     }
-    if question.routine == HOLDS_TEST {
+    if routine == HOLDS_TEST {
         return is_held(question.expected, first, second, result);
     }
-    if second.len() != 0 {
-        return false;
+    if routine != TEST_SUMMARY {
+        if second.len() != 0 {
+            return false;
+        }
     }
-    if question.routine == PROGRAM {
+    if routine == PROGRAM {
         return is_printed(first, result);
     }
     let mut space = io::large_buffer();
-    is_right_within(question, first, result, &mut space)
+    is_right_within(question, first, second, result, &mut space)
 }

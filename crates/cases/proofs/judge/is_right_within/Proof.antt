@@ -9,7 +9,7 @@ use Rattle.cases.proofs.judge.is_right_within.Tie as tie
 
 slice-aggregate-is-right-in : tie.Need-slice-aggregate-is-right-in
 slice-aggregate-is-right-in c =
-    let a = c .before .before .before .before .before .args in
+    let a = c .before .before .before .before .before .before .args in
     sym (length-take-le (a .question .lent) (now (a .space)) (omega (arith, c .before .if1 .left)))
 
 pub is-right-within-spec : {M : Type 1} → statement M
