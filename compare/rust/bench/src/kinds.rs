@@ -4,10 +4,12 @@
 use beside::draw::Draw;
 use beside::leaf::{LITERALS, Leaf, Question, column, operator, transform};
 
+use crate::files::{self, Verdicts};
+
 /// Leaves of a kind: several, so that no branch is learned from one literal alone.
-const LEAVES: usize = 16;
+pub const LEAVES: usize = 16;
 /// Sets of a kind: few enough for the nearest cache.
-const SETS: usize = 4;
+pub const SETS: usize = 4;
 /// The width for numbers, and for strings: the start of a lot code.
 const NUMBER_WIDTH: u32 = 10;
 const STRING_WIDTH: u32 = 4;
@@ -18,6 +20,8 @@ pub enum Kind {
     Transform(Values),
     /// The holds-test by the inclusive predicates of leaves.
     Holds(Projections),
+    /// The test of summaries.
+    Verdict(Verdicts),
 }
 
 impl Kind {
@@ -25,6 +29,7 @@ impl Kind {
         match self {
             Kind::Projection(kind) | Kind::Holds(kind) => &kind.name,
             Kind::Transform(kind) => &kind.name,
+            Kind::Verdict(kind) => &kind.name,
         }
     }
 
@@ -34,6 +39,7 @@ impl Kind {
             Kind::Projection(_) => "strict",
             Kind::Transform(_) => "transform",
             Kind::Holds(_) => "holds",
+            Kind::Verdict(_) => "verdict",
         }
     }
 }
@@ -105,6 +111,7 @@ pub fn all() -> Vec<Kind> {
     let mut kinds: Vec<Kind> = projections.into_iter().map(Kind::Projection).collect();
     kinds.extend(transforms().into_iter().map(Kind::Transform));
     kinds.extend(tested.into_iter().map(Kind::Holds));
+    kinds.extend(files::all().into_iter().map(Kind::Verdict));
     kinds
 }
 

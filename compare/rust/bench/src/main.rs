@@ -4,9 +4,10 @@
 //! The first table is crate and C name: the crate gets a `BoundPredicate` that is ready and drops its result within the
 //! call; the port reads its sheet's bytes anew each call and writes into a buffer that is not cleared between calls. The
 //! second table is what two callers pay, one of the crate and one of the port's Rust crate, from a leaf that is ready and
-//! from literals, and the holds-test. Then come the tables of `filters`, in which the crate has no part. An argument, if
-//! there is one, picks the kinds whose name has it in it.
+//! from literals, the holds-test and the test of a summary. Then come the tables of `filters`, in which the crate has no
+//! part. An argument, if there is one, picks the kinds whose name has it in it.
 
+mod files;
 mod kinds;
 mod rust_crate;
 mod sides;
@@ -40,7 +41,9 @@ fn main() -> ExitCode {
     println!("The C name's result buffer is not cleared between calls; the crate's transform functions are ready.");
     if !kinds.is_empty() {
         let rows = Row::all(&kinds);
-        print!("\n{}\n{}", tables::crate_and_port(&rows), tables::two_callers(&rows));
+        for table in tables::crate_and_port(&rows).into_iter().chain([tables::two_callers(&rows)]) {
+            print!("\n{table}");
+        }
     }
     if !filters.is_empty() {
         print!("\n{}", filters.tables());

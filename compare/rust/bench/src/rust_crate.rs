@@ -1,7 +1,7 @@
 //! The port's Rust crate (bindings/rust): its types, made of the bytes and numbers that the other sides are given.
 
 use beside::leaf::Question;
-use weighpick::{Leaf, Literal, Predicate, PredicateOperator, Refusal, Transform, Type, Value};
+use weighpick::{Leaf, Literal, Predicate, PredicateOperator, Refusal, Summary, Transform, Type, Value};
 
 /// A leaf that is ready.
 pub fn leaf(sheet: &[u8]) -> Leaf {
@@ -50,6 +50,12 @@ pub fn test(answer: &[u8], partition: &[u8]) -> (Predicate, Value) {
     let predicate = Predicate::from_bytes(answer).expect("an answer sheet");
     let value = value(predicate.column_type(), partition);
     (predicate, value)
+}
+
+/// A predicate and a summary to test with it.
+pub fn test_file(answer: &[u8], summary: &[u8]) -> (Predicate, Summary) {
+    let predicate = Predicate::from_bytes(answer).expect("an answer sheet");
+    (predicate, Summary::from_bytes(summary).expect("a summary"))
 }
 
 pub fn setting(column: u8, transform: u8, width: u32) -> (Type, Transform) {

@@ -4,11 +4,12 @@
 use std::hint::black_box;
 
 use beside::crate_side::{self, Literals, Prepared, PreparedValue};
-use beside::leaf::{Answer, Leaf, Question, SHEET_BUFFER, Transformed, VALUE_BUFFER, Value, number};
+use beside::leaf::{Answer, Leaf, Question, SHEET_BUFFER, Transformed, VALUE_BUFFER, VERDICT_BUFFER, Value, number};
 use beside::port;
 use beside::sheet::{predicate_of, sheet_of, value_of, value_record};
 use timing::{a_call, in_turn, pass};
 
+use crate::files::Verdicts;
 use crate::kinds::{Projections, Values};
 use crate::rust_crate::{self, Parts};
 
@@ -73,6 +74,27 @@ pub fn time_holds(kind: &Projections) -> Times {
         None,
         pass(&asked, |(sheet, record)| port::holds(sheet, record)),
         pass(&typed, |(predicate, value)| predicate.holds(value)),
+        None,
+    ]);
+    a_call(times, asked.len())
+}
+
+/// The test of each summary of a kind by its sheet. The crate's published files have none.
+pub fn time_verdict(kind: &Verdicts) -> Times {
+    let asked = &kind.asked;
+    let mut out = [0; VERDICT_BUFFER];
+    let typed: Vec<_> = asked.iter().map(|(sheet, summary)| rust_crate::test_file(sheet, summary)).collect();
+    for ((sheet, summary), (predicate, file)) in asked.iter().zip(&typed) {
+        let (number, count) = port::test_summary(sheet, summary, &mut out);
+        assert_eq!((number, count), (number::WRITTEN, 1), "{}: a verdict", kind.name);
+        let again = predicate.test_summary(file).expect("no refusal");
+        assert_eq!(again.number(), out[0], "{}: {predicate} of {file}", kind.name);
+    }
+    let times = in_turn([
+        None,
+        None,
+        pass(asked, |(sheet, summary)| port::test_summary(sheet, summary, black_box(&mut out))),
+        pass(&typed, |(predicate, file)| predicate.test_summary(file)),
         None,
     ]);
     a_call(times, asked.len())

@@ -19,6 +19,7 @@ impl Row {
             Kind::Projection(kind) => sides::time_projection(kind),
             Kind::Transform(kind) => sides::time_transform(kind),
             Kind::Holds(kind) => sides::time_holds(kind),
+            Kind::Verdict(kind) => sides::time_verdict(kind),
         });
         let row = |(kind, times): (&Kind, Times)| Row { name: kind.name().to_string(), asked: kind.asked(), times };
         kinds.iter().zip(times).map(row).collect()
@@ -41,14 +42,16 @@ impl Row {
     }
 }
 
-/// The crate, from what is ready, and the port's C name.
-pub fn crate_and_port(rows: &[Row]) -> String {
+/// The crate, from what is ready, and the port's C name; none where no row has the crate's time.
+pub fn crate_and_port(rows: &[Row]) -> Option<String> {
+    let mut rows = rows.iter().filter(|row| row.times[CRATE].is_some()).peekable();
+    rows.peek()?;
     let mut table = String::from("| kind | question | crate ns | port ns | crate / port |\n|---|---|---:|---:|---:|\n");
-    for row in rows.iter().filter(|row| row.times[CRATE].is_some()) {
+    for row in rows {
         let cells = [row.ns(CRATE), row.ns(C_NAME), row.ratio(CRATE, C_NAME)];
         table += &format!("{} {} |\n", row.head(), cells.join(" | "));
     }
-    table
+    Some(table)
 }
 
 /// What a caller of the crate and one of the port's Rust crate pay, and the C name beside them.

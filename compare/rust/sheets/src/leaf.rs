@@ -22,6 +22,8 @@ pub const ANSWER_LITERALS: usize = 2 * LITERALS;
 pub const SHEET_BUFFER: usize = (1 + ANSWER_LITERALS) * RECORD;
 /// Bytes that the result buffer of one transformed value must have.
 pub const VALUE_BUFFER: usize = RECORD;
+/// Bytes that the result buffer of a verdict must have.
+pub const VERDICT_BUFFER: usize = 1;
 
 /// The answers' numbers, document 01's first.
 pub mod number {
@@ -37,6 +39,8 @@ pub mod number {
     /// Document 02's, of filters alone.
     pub const OUTSIDE_GRAMMAR: u32 = 9;
     pub const TOO_LARGE: u32 = 10;
+    /// And of summaries alone.
+    pub const WRONG_SUMMARY: u32 = 11;
 }
 
 /// Column types.

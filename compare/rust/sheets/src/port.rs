@@ -24,6 +24,15 @@ unsafe extern "C" {
         count: *mut u64,
     ) -> u32;
     fn weighpick_holds(sheet: *const u8, sheet_len: usize, value: *const u8, value_len: usize) -> u32;
+    fn weighpick_test_summary(
+        sheet: *const u8,
+        sheet_len: usize,
+        summary: *const u8,
+        summary_len: usize,
+        out: *mut u8,
+        out_len: usize,
+        count: *mut u64,
+    ) -> u32;
     fn weighpick_filter_row(
         columns: *const u8,
         columns_len: usize,
@@ -91,6 +100,25 @@ pub fn transform(column: u8, transform: u8, width: u32, value: &[u8], out: &mut 
 pub fn holds(sheet: &[u8], value: &[u8]) -> u32 {
     // SAFETY: pointers and lengths are those of live slices, which the routine only reads.
     unsafe { weighpick_holds(sheet.as_ptr(), sheet.len(), value.as_ptr(), value.len()) }
+}
+
+/// The test of a summary by a sheet into `out`: number and count.
+#[inline]
+pub fn test_summary(sheet: &[u8], summary: &[u8], out: &mut [u8]) -> (u32, u64) {
+    let mut count = UNSET;
+    // SAFETY: as in `project`.
+    let number = unsafe {
+        weighpick_test_summary(
+            sheet.as_ptr(),
+            sheet.len(),
+            summary.as_ptr(),
+            summary.len(),
+            out.as_mut_ptr(),
+            out.len(),
+            &mut count,
+        )
+    };
+    (number, count)
 }
 
 /// What a filter is answered by the values of its columns: the number.

@@ -53,6 +53,13 @@ pub fn value_record(value: &Value) -> [u8; RECORD] {
     record
 }
 
+/// The summary of a file: the lowest and the highest of its present values, with none missing.
+pub fn summary_of(column: u8, lowest: &[u8], highest: &[u8]) -> Vec<u8> {
+    let end = |content: &[u8]| value_record(&Value::Present(content.to_vec()));
+    // type and flag behind the records
+    [&end(lowest)[..], &end(highest), &[column, 0]].concat()
+}
+
 /// Operator and literals of an answer sheet; none unless it is what document 01 says an answer sheet is: transform 0,
 /// width 0, its literals in records 1, 2, .. in the order of the chain, every other byte zero.
 pub fn predicate_of(sheet: &[u8]) -> Option<(u16, Vec<Vec<u8>>)> {
