@@ -2,7 +2,7 @@
 use Prim.Native.Nat.{ℕ}
 use mathlib.Core.Bool.{not, _||_, true≢false}
 use mathlib.Core.List.{List}
-use mathlib.Core.Path.{_≡_, refl, sym, ap, subst, _∙_}
+use mathlib.Core.Path.{_≡_, refl, sym, ap, _∙_}
 use Rattle.values.specs.Outcomes.{Res, ok, need, _>>_, each, Row, missing, present}
 use Rattle.values.specs.laws.OutcomeLaws.{ok-inj, gone}
 use Rattle.values.specs.laws.TypesLaws.{transformCode, transform-numbers}
@@ -25,7 +25,8 @@ use Rattle.projection.specs.declared.question.Question.{Question}
 use Rattle.sheet.specs.Records.{value}
 use Rattle.sheet.specs.Sheets.{Head, head, sheet}
 use Rattle.sheet.specs.Values.{readBytes, eachLiteral, readRow, byLayout}
-use Rattle.sheet.specs.laws.RefusalLaws.{Only, only-ok, only-err, only-bind, only-then, only-need, only-each, value-only, head-only, sheet-only}
+use Rattle.sheet.specs.laws.RefusalLaws.{Only, only-ok, only-err, only-bind, only-then, only-need, only-wider, only-each}
+use Rattle.sheet.specs.laws.RefusalLaws.{malformed, value-only, head-only, sheet-only}
 use Rattle.sheet.specs.laws.SheetLaws.{sheet-read}
 use Rattle.answers.specs.Answers.{projected, projectedLeaf, transformed, transformedRow}
 use Rattle.answers.specs.Kinds.{Kind, numbers, byteStrings}
@@ -54,11 +55,8 @@ module _ {X : Type 0} where
   eight : Seven X Overflow
   eight e = absurd (true≢false (cc))
 
-  malformed : {A : Type 0} (r : Res A) → Only (λ (e : ErrorKind). e ≡ Malformed) r → Only (Seven X) r
-  malformed r h = record { only = λ e d. subst (Seven X) (sym (h .only e d)) three }
-
   pub weaker : {A Y : Type 0} {r : Res A} → (Y → X) → Only (Seven Y) r → Only (Seven X) r
-  weaker f h = record { only = λ e d is. f (h .only e d is) }
+  weaker f h = only-wider (λ e seven is. f (seven is)) h
 
   -- ---- reading
   bytes-read : (column : PrimitiveType) (bs : List ℕ) → Only (Seven X) (readBytes column bs)
@@ -184,15 +182,15 @@ head-unknown type transform width h e is =
 sheet-unknown : (question : Question) (s : List ℕ) → Only (Seven (transformIn s ≡ unknown)) (projectSheet question s)
 unfolding projectSheet
 sheet-unknown question s =
-    only-then (sheet projectLimit s) _ (malformed (sheet projectLimit s) (sheet-only projectLimit s)) (λ x e.
+    only-then (sheet projectLimit s) _ (malformed three (sheet-only projectLimit s)) (λ x e.
     let named = head-unknown (word 4 1 s) (word 5 1 s) (word 8 4 s) (x .head) (sheet-read projectLimit s x e .head-is) in
     weaker named (leaf-only (x .head .column) (x .head .transform) question (x .leaf)))
 
 value-unknown : (type transform width : ℕ) (v : List ℕ) → Only (Seven (transform ≡ unknown)) (transformValue type transform width v)
 unfolding transformValue
 value-unknown type transform width v =
-    only-then (head type transform width) _ (malformed (head type transform width) (head-only type transform width)) (λ h e.
-    only-bind (value (layout (h .column)) v) _ (malformed (value (layout (h .column)) v) (value-only (layout (h .column)) v)) (λ row.
+    only-then (head type transform width) _ (malformed three (head-only type transform width)) (λ h e.
+    only-bind (value (layout (h .column)) v) _ (malformed three (value-only (layout (h .column)) v)) (λ row.
     weaker (head-unknown type transform width h e) (value-row-only (h .column) (h .transform) row)))
 
 pub seven-is-unknown : SevenIsUnknown

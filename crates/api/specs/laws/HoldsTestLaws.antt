@@ -10,20 +10,17 @@ use Rattle.values.specs.declared.error.ErrorKind.{ErrorKind}
 use Rattle.expr.specs.Operators.{byArity, holdsLimit}
 use Rattle.expr.specs.Predicates.{operatorIn, literalsIn}
 use Rattle.sheet.specs.Records.{value}
-use Rattle.sheet.specs.laws.RefusalLaws.{Only, OnlyMalformed, only-bind, value-only, sheet-only}
+use Rattle.sheet.specs.laws.RefusalLaws.{Only, only-bind, malformed, value-only, sheet-only}
 use Rattle.sheet.specs.Sheets.{sheet}
 use Rattle.meets.specs.laws.HeldLaws.{Refusal, tested-held, held-only}
 use Rattle.meets.specs.Tested.{testedSheet, heldAs, heldNumber}
 use Rattle.api.specs.HoldsTest.{holdsTest}
 
-malformed : {A : Type 0} {r : Res A} → OnlyMalformed r → Only Refusal r
-malformed h = record { only = λ e d. inl (h .only e d) }
-
 test-only : (s v : List ℕ) → Only Refusal (holdsTest s v)
 unfolding holdsTest
 test-only s v =
-    only-bind (sheet holdsLimit s) _ (malformed (sheet-only holdsLimit s)) (λ x.
-    only-bind (value (layout (x .head .column)) v) (testedSheet x) (malformed (value-only (layout (x .head .column)) v)) (λ row.
+    only-bind (sheet holdsLimit s) _ (malformed (inl refl) (sheet-only holdsLimit s)) (λ x.
+    only-bind (value (layout (x .head .column)) v) (testedSheet x) (malformed (inl refl) (value-only (layout (x .head .column)) v)) (λ row.
     rw (tested-held x row) (held-only (x .head .column) (byArity (operatorIn (x .leaf))) (literalsIn (x .leaf)) row)))
 
 -- 01: "gives only 0, 1, 3, 4"

@@ -14,7 +14,7 @@ use Rattle.values.specs.declared.error.ErrorKind.the-variants.{Malformed, NotUt
 use Rattle.expr.specs.Operators.{holdsLimit}
 use Rattle.expr.specs.Predicates.{Predicate}
 use Rattle.sheet.specs.Sheets.{sheet}
-use Rattle.sheet.specs.laws.RefusalLaws.{Only, OnlyMalformed, only-ok, only-bind, only-need, sheet-only}
+use Rattle.sheet.specs.laws.RefusalLaws.{Only, only-ok, only-bind, only-need, malformed, sheet-only}
 use Rattle.answers.specs.Answers.{answerOf, answerNumber}
 use Rattle.answers.specs.declared.answer.Answer.the-variants.{BufferTooSmall}
 use Rattle.summary.specs.EndValues.{compareIn, ordered}
@@ -29,9 +29,6 @@ use Rattle.files.specs.TestSummary.{testSummary, verdictBuffer, verdictB
 abbrev Refusal : ErrorKind → Type 0
 Refusal e = (e ≡ Malformed) ⊎ ((e ≡ NotUtf8) ⊎ (e ≡ WrongSummary))
 
-malformed : {A : Type 0} {r : Res A} → OnlyMalformed r → Only Refusal r
-malformed h = record { only = λ e d. inl (h .only e d) }
-
 judged-only : (column : PrimitiveType) (leaf : Predicate (List ℕ)) (file : Summary) → Only Refusal (judged column leaf file)
 judged-only column leaf file =
     rw (judged-checks column leaf file)
@@ -42,8 +39,8 @@ judged-only column leaf file =
 test-only : (s f : List ℕ) → Only Refusal (testSummary s f)
 unfolding testSummary
 test-only s f =
-    only-bind (sheet holdsLimit s) _ (malformed (sheet-only holdsLimit s)) (λ x.
-    only-bind (summary f) _ (malformed (summary-only f)) (λ file. judged-only (x .head .column) (x .leaf) file))
+    only-bind (sheet holdsLimit s) _ (malformed (inl refl) (sheet-only holdsLimit s)) (λ x.
+    only-bind (summary f) _ (malformed (inl refl) (summary-only f)) (λ file. judged-only (x .head .column) (x .leaf) file))
 
 -- 0, 2, 3, 4 and 11, and no other
 pub answers : (s f out : List ℕ) → let n = answerNumber (testAnswer s f out) in (n ≡ 0) ⊎ ((n ≡ 2) ⊎ ((n ≡ 3) ⊎ ((n ≡ 4) ⊎ (n ≡ 11))))

@@ -45,6 +45,10 @@ module _ {p : ErrorKind → Type 0} where
   only-cond true r s h k = h
   only-cond false r s h k = k
 
+  -- by a wider list of refusals
+  pub only-wider : {A : Type 0} {q : ErrorKind → Type 0} {r : Res A} → ((e : ErrorKind) → p e → q e) → Only p r → Only q r
+  only-wider f h = record { only = λ e d. f e (h .only e d) }
+
   pub only-each : {A B : Type 0} (f : A → Res B) → ((x : A) → Only p (f x)) → (xs : List A) → Only p (each f xs)
   only-each f h [] = only-ok
   only-each f h (x ∷ xs) = only-bind (f x) _ (h x) (λ y. only-bind (each f xs) _ (only-each f h xs) (λ ys. only-ok))
@@ -52,6 +56,9 @@ module _ {p : ErrorKind → Type 0} where
 -- ---- records and sheets
 abbrev pub OnlyMalformed : {A : Type 0} → Res A → Type 0
 OnlyMalformed r = Only (λ (e : ErrorKind). e ≡ Malformed) r
+
+pub malformed : {A : Type 0} {p : ErrorKind → Type 0} {r : Res A} → p Malformed → OnlyMalformed r → Only p r
+malformed {A} {p} h k = only-wider (λ e same. subst p (sym same) h) k
 
 pub must : {B : Type 0} (b : Bool) (r : Res B) → OnlyMalformed r → OnlyMalformed (need b Malformed >> r)
 must b r h = only-need b Malformed r refl h

@@ -5,7 +5,6 @@ use mathlib.Core.List.{List, [], _∷_, map, List·Memᴰ as Isin, List·Memᴰ�
 use mathlib.Core.Logic.{_↔_}
 use mathlib.Core.Path.{_≡_, refl, sym, ap, _∙_}
 use lib.IntN.{ℤ}
-use lib.Signed.{_≤ℤ_}
 use Rattle.values.specs.SomeEvery.{some, every}
 use Rattle.values.specs.Order.{compareNumbers}
 use Rattle.values.specs.Outcomes.{Row, missing, present}
@@ -60,9 +59,6 @@ module _ {A : Type 0} (meets : A → Bool) (rows : List A) where
       taken h k = rw (h, k)
 
 -- ---- of numbers: the values of a file are those that its summary lets it hold
-pub in-order : (low high : ℤ) → ordered compareNumbers (low to high) ≡ true → low ≤ℤ high
-in-order low high h = is-at-most low high .0 h
-
 module _ {A : Type 0} where
   present-in : (v : A) (xs : List A) → Isin (present v) (map present xs) ↔ Isin v xs
   present-in v xs = (back xs, forth xs)
@@ -82,7 +78,7 @@ module _ {A : Type 0} where
 value-iff : (ends : Ends ℤ) (v : ℤ) → ordered compareNumbers ends ≡ true → Isin v (valuesIn ends) ↔ (liesIn compareNumbers ends v ≡ true)
 value-iff nonePresent v h = (λ m. clash (some-iff (λ x. true) [] .1 (v, m, refl)) refl, λ e. clash e refl)
 value-iff (low to high) v h =
-    let m = between-iff low high v (in-order low high h) in
+    let m = between-iff low high v (is-at-most low high .0 h) in
     let l = lies-iff low high v in
     (λ k. l .1 (m .0 k), λ k. m .1 (l .0 k))
 
