@@ -19,12 +19,12 @@ use Rattle.leaves.specs.Fitting.{Leaf}
 use Rattle.leaves.specs.Symbols.{symbols}
 use Rattle.leaves.specs.declared.symbol.SymbolKind.the-variants as kind
 use Rattle.ask.specs.declared.asked.Asked.{Asked}
-use Rattle.filter.specs.FilterRoutines.{textLimit, leafLimit, bracketLimit, whole, filterIn}
-use Rattle.filter.specs.code.Asking.{textAnswered}
-use Rattle.filter.specs.code.FilterReads.{after, ask, Reads}
-use Rattle.filter.specs.code.Reading.{Tells, Says}
-use Rattle.filter.specs.declared.read.Read.{Read}
-use Rattle.filter.proofs.Ahead.{isKind, isEmpty, end-seen}
+use Rattle.parse.specs.FilterText.{textLimit, leafLimit, bracketLimit, whole, filterIn}
+use Rattle.filter.specs.code.FilterAnswers.{textAnswered}
+use Rattle.parse.specs.code.FilterReads.{after, ask, Reads}
+use Rattle.parse.specs.code.Reading.{Tells, Says}
+use Rattle.parse.specs.declared.read.Read.{Read}
+use Rattle.parse.proofs.Ahead.{isKind, isEmpty, end-seen}
 
 -- a filter that has not too many leaves and open brackets
 abbrev limited : Filter Leaf → Res (Filter Leaf)

@@ -21,7 +21,8 @@ use Rattle.columns.specs.Columns.{nameSize, entryAt}
 use Rattle.grammar.specs.Filters.{Filter, leaf, either, both, opposite, bracket}
 use Rattle.leaves.specs.Fitting.{Leaf}
 use Rattle.ask.specs.LeafAnswers.{withoutPredicate}
-use Rattle.filter.specs.FilterRoutines.{filterIn, filterRow, filterParts}
+use Rattle.parse.specs.FilterText.{filterIn}
+use Rattle.filter.specs.FilterRoutines.{filterRow, filterParts}
 
 -- ---- rows and their partition values
 

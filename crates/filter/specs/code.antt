@@ -1,5 +1,2 @@
--- What the structs of the code of `filter` mean, as the definitions have it.
-pub mod Reading
-pub mod Asking
-pub mod SkimAnswers
-pub mod FilterReads
+-- What the code of `filter` is asked, as the definitions have it.
+pub mod FilterAnswers

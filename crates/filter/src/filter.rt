@@ -1,5 +1,4 @@
 // The routines of filters: a row, or partition values under either question, against a text.
-use crate::parse::parse_or;
 use ask::asked::Asked;
 use columns::cells::Side;
 use columns::cells::ValuesResult;
@@ -7,14 +6,16 @@ use columns::cells::check_values;
 use columns::list::count_columns;
 use leaves::symbol::SymbolKind;
 use meets::held::Held;
+use parse::parse::parse_or;
 use values::error::ErrorKind;
 ghost use mathlib.Core.Path.{_≡_};
 ghost use Rattle.meets.specs.Tested.{heldAs};
 ghost use Rattle.projection.specs.declared.question.Question.the-variants as question;
 ghost use Rattle.columns.specs.code.ColumnAnswers.{sideOf};
+ghost use Rattle.parse.specs.code.Asking.{sideFor};
+ghost use Rattle.parse.specs.code.FilterReads.{Ready};
 ghost use Rattle.filter.specs.FilterRoutines.{filterRow, filterParts};
-ghost use Rattle.filter.specs.code.Asking.{sideFor, textAnswered, filterAnswered};
-ghost use Rattle.filter.specs.code.FilterReads.{Ready};
+ghost use Rattle.filter.specs.code.FilterAnswers.{textAnswered, filterAnswered};
 
 // The most bytes of a text, and the most leaves.
 pub const TEXT_LIMIT: usize = 4096;

@@ -26,7 +26,8 @@ use Rattle.leaves.specs.Fitting.{Leaf}
 use Rattle.ask.specs.LeafAnswers.{predicateIn, rowAnswer, partAnswer}
 use Rattle.filter.specs.FilterDemand.{headAt, placesIn, Rows, Kept, FilterLosesNoRow, FilterStrictIsSafe, sheetIn, byReturned}
 use Rattle.filter.specs.FilterDemand.{OneLeafRow, OneLeafParts, FiltersLoseNothing}
-use Rattle.filter.specs.FilterRoutines.{filterIn, turn, filterRow, filterParts}
+use Rattle.parse.specs.FilterText.{filterIn, turn}
+use Rattle.filter.specs.FilterRoutines.{filterRow, filterParts}
 use Rattle.demand.proofs.ReadBackLaws.{sheetOf}
 use Rattle.filterdemand.proofs.ListedCells.{CellAt, cells-columns, column-head, cell-at}
 use Rattle.filterdemand.proofs.FittedLaws.{Fitted, leaf-fitted, turn-fitted}

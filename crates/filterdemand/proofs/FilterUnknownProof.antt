@@ -12,7 +12,7 @@ use Rattle.values.specs.declared.transform.Transform.{Transform}
 use Rattle.partition.specs.ResultType.{resultType}
 use Rattle.projection.specs.declared.question.Question.{Question}
 use Rattle.sheet.specs.Values.{eachLiteral, byLayout}
-use Rattle.sheet.specs.laws.RefusalLaws.{Only, only-ok, only-bind, only-then}
+use Rattle.sheet.specs.laws.RefusalLaws.{Only, only-ok, only-bind, only-then, only-wider}
 use Rattle.answers.specs.Kinds.{Kind, numbers, byteStrings}
 use Rattle.api.specs.Demand3.{typeIn, transformIn, widthIn}
 use Rattle.columns.specs.Cells.{parts, Cell, cellsOf}
@@ -20,7 +20,8 @@ use Rattle.grammar.specs.Filters.{Filter, straight}
 use Rattle.leaves.specs.Fitting.{Leaf}
 use Rattle.ask.specs.LeafAnswers.{rowAt, predicateIn, byPart, partAnswer}
 use Rattle.filter.specs.FilterDemand.{headAt, placesIn, NamesUnknown, FilterSevenIsUnknown}
-use Rattle.filter.specs.FilterRoutines.{filterIn, turn, filterParts}
+use Rattle.parse.specs.FilterText.{filterIn, turn}
+use Rattle.filter.specs.FilterRoutines.{filterParts}
 use Rattle.filter.specs.laws.FilterAnswerLaws.{ReadRefusal, cells-only, text-only}
 use Rattle.demand.proofs.UnknownProof.{Seven, weaker, literals-only, result-only, Unknowns, KindRefusals, number-refusals, bytes-refusals, head-unknown}
 use Rattle.filterdemand.proofs.FilterDemandProof.{columnsOf, named-every, all-fitted, leaf-head}
@@ -29,7 +30,7 @@ use Rattle.filterdemand.proofs.JoinedLaws.{EveryTurned, straight-every,
 
 -- 3, 4, 9 and 10 are no 7
 not-seven : {A X : Type 0} {r : Res A} → Only ReadRefusal r → Only (Seven X) r
-not-seven {A} {X} {r} h = record { only = λ e d is. go (errorNumber e) (ap errorNumber is) (h .only e d) }
+not-seven {A} {X} {r} h = only-wider (λ e read is. go (errorNumber e) (ap errorNumber is) read) h
   where
     go : (n : ℕ) → n ≡ 7 → (n ≡ 3) ⊎ ((n ≡ 4) ⊎ ((n ≡ 9) ⊎ (n ≡ 10))) → X
     go n e (inl k) = absurd (omega arith)

@@ -38,7 +38,8 @@ use Rattle.grammar.specs.Parser.{single, conjunction, disjunction}
 use Rattle.leaves.specs.Symbols.{symbols}
 use Rattle.ask.specs.LeafAnswers.{rowAnswer, partAnswer}
 use Rattle.filter.specs.FilterDemand.{headAt, placesIn, Rows}
-use Rattle.filter.specs.FilterRoutines.{filterIn, filterRow, filterParts}
+use Rattle.parse.specs.FilterText.{filterIn}
+use Rattle.filter.specs.FilterRoutines.{filterRow, filterParts}
 
 -- ---- an Int column a under Truncate 10 and a String column s under Truncate 2, the row 5 and abc, and its partition values 0 and ab
 abbrev entry : List ℕ → ℕ → ℕ → List ℕ

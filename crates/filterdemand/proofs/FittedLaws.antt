@@ -19,7 +19,7 @@ use Rattle.expr.specs.Operators as operators
 use Rattle.projection.specs.laws.LeafDemand.{HeldIn}
 use Rattle.columns.specs.Columns.{Column}
 use Rattle.leaves.specs.Fitting.{Literal, decimal, text, Leaf, fitsLength, fits, contentOf, leafFrom, leafOf}
-use Rattle.filter.specs.FilterRoutines.{turn}
+use Rattle.parse.specs.FilterText.{turn}
 use Rattle.demand.proofs.NumberKindLaws.{number-fits}
 
 -- ---- contents: of a length that the type allows, and UTF-8 in a String

@@ -24,7 +24,7 @@ use Rattle.grammar.specs.laws.ParserLaws.{disjunction-sound}
 use Rattle.leaves.specs.Fitting.{Literal, Leaf, leafOf}
 use Rattle.leaves.specs.Symbols.{asOperator, asLiteral, Read, read, orElse, onTaken, afterSpaces, leafAfter, ofToken}
 use Rattle.leaves.specs.Symbols.{symbol, firstThen, symbolsFrom, symbolsWithin, symbols}
-use Rattle.filter.specs.FilterRoutines.{textLimit, leafLimit, bracketLimit, whole, filterIn}
+use Rattle.parse.specs.FilterText.{textLimit, leafLimit, bracketLimit, whole, filterIn}
 use Rattle.filterdemand.proofs.JoinedLaws.{EveryLeaf}
 
 -- ---- filters: a leaf of what is derived is one of the symbols

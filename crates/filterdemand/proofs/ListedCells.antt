@@ -23,7 +23,7 @@ use Rattle.columns.specs.laws.CellLaws.{CellsRead, cells-read, cell-column}
 use Rattle.columns.specs.laws.ColumnLaws.{entry-at}
 use Rattle.ask.specs.LeafAnswers.{rowAt}
 use Rattle.filter.specs.FilterDemand.{headAt}
-use Rattle.filter.specs.laws.AskingLaws.{row-cell}
+use Rattle.parse.specs.laws.AskingLaws.{row-cell}
 use Rattle.filterdemand.proofs.FittedLaws.{Has}
 
 -- what a list has at a place

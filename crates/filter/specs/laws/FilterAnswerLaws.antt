@@ -18,7 +18,7 @@ use Rattle.projection.specs.declared.question.Question.{Question}
 use Rattle.sheet.specs.Records.{recordSize, recordAt, value}
 use Rattle.sheet.specs.code.Contents.{rowUtf8}
 use Rattle.sheet.specs.laws.ReadLaws.{bytes-row}
-use Rattle.sheet.specs.laws.RefusalLaws.{Only, only-ok, only-err, only-bind, only-need, only-each, value-only}
+use Rattle.sheet.specs.laws.RefusalLaws.{Only, only-ok, only-err, only-bind, only-need, only-wider, only-each, malformed, value-only}
 use Rattle.meets.specs.Tested.{heldAs, heldNumber}
 use Rattle.meets.specs.laws.HeldLaws as tests
 use Rattle.meets.specs.laws.HeldLaws.{tested-held, held-only}
@@ -30,7 +30,8 @@ use Rattle.grammar.specs.Parser.{Found, found, nothing, disjunction}
 use Rattle.leaves.specs.Fitting.{Leaf}
 use Rattle.leaves.specs.Symbols.{symbols}
 use Rattle.ask.specs.LeafAnswers.{rowAt, sheetOf, rowAnswer}
-use Rattle.filter.specs.FilterRoutines.{textLimit, leafLimit, bracketLimit, whole, filterIn, turn, filterRow, filterParts}
+use Rattle.parse.specs.FilterText.{textLimit, leafLimit, bracketLimit, whole, filterIn, turn}
+use Rattle.filter.specs.FilterRoutines.{filterRow, filterParts}
 
 -- ---- what list, values and text are refused with, and so a row's filter
 abbrev pub ReadRefusal : ErrorKind → Type 0
@@ -48,19 +49,16 @@ nine = inr (inr (inl refl))
 ten : ReadRefusal TooLarge
 ten = inr (inr (inr refl))
 
-wider : {A : Type 0} {p q : ErrorKind → Type 0} {r : Res A} → ((e : ErrorKind) → p e → q e) → Only p r → Only q r
-wider f h = record { only = λ e d. f e (h .only e d) }
-
 -- ---- 3 and 4: the list and the values
 list-only : (c : List ℕ) → Only ReadRefusal (columns c)
-list-only c = wider (λ e is. inl (ap errorNumber is)) (columns-only c)
+list-only c = malformed three (columns-only c)
 
 module _ (side : Side) where
   values-only : (v : List ℕ) (k : ℕ) (cs : List Column) → Only ReadRefusal (cellsFrom side v k cs)
   values-only v k [] = only-ok
   values-only v k (c ∷ cs) =
       let l = layout (typeOf side c) in
-      only-bind (value l (recordAt v k)) _ (wider (λ e is. inl (ap errorNumber is)) (value-only l (recordAt v k))) (λ r.
+      only-bind (value l (recordAt v k)) _ (malformed three (value-only l (recordAt v k))) (λ r.
       only-bind (cellsFrom side v (suc k) cs) _ (values-only v (suc k) cs) (λ cells. only-ok))
 
   cell-only : (x : Cell) → Only ReadRefusal (readCell side x)
@@ -96,7 +94,7 @@ unfolding rowAnswer
 leaf-only cells l =
     let x = sheetOf l in
     let row = rowAt cells (l .place) in
-    rw (tested-held x row) (wider among (held-only (x .head .column) (byArity (operatorIn (x .leaf))) (literalsIn (x .leaf)) row))
+    rw (tested-held x row) (only-wider among (held-only (x .head .column) (byArity (operatorIn (x .leaf))) (literalsIn (x .leaf)) row))
   where
     among : (e : ErrorKind) → tests.Refusal e → ReadRefusal e
     among e (inl is) = inl (ap errorNumber is)

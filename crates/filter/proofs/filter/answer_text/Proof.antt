@@ -1,6 +1,6 @@
 -- `filter::answer_text` meets its contract. Assumes nothing.
 use borrow.Author.Needs.{needs}
-use Rattle.filter.proofs.Ahead.{not-end}
+use Rattle.parse.proofs.Ahead.{not-end}
 use Rattle.filter.proofs.Texts.{too-long, outside, too-deep, too-many, all-answered}
 use Rattle.filter.proofs.filter.answer_text.Statement.{statement}
 use Rattle.filter.proofs.filter.answer_text.Tie as tie

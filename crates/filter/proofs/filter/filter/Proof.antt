@@ -5,7 +5,7 @@ use borrow.Author.Needs.{needs}
 use Rattle.columns.specs.Cells.{cellsOf}
 use Rattle.columns.specs.code.ColumnAnswers.{valuesResult}
 use Rattle.columns.specs.laws.CellLaws.{values-there, values-refused}
-use Rattle.filter.specs.code.Asking.{sideFor}
+use Rattle.parse.specs.code.Asking.{sideFor}
 use Rattle.filter.proofs.Filtered.{list-broken, values-broken, values-ready, values-answered}
 use Rattle.filter.proofs.filter.filter.Statement.{statement}
 use Rattle.filter.proofs.filter.filter.Tie as tie
