@@ -1,2 +1,2 @@
--- What the code of `filter` is asked, as the definitions have it.
+-- What the code of `filter` answers, as the definitions have it.
 pub mod FilterAnswers

@@ -57,6 +57,7 @@ module _ {p : ErrorKind → Type 0} where
 abbrev pub OnlyMalformed : {A : Type 0} → Res A → Type 0
 OnlyMalformed r = Only (λ (e : ErrorKind). e ≡ Malformed) r
 
+-- what gives no other refusal than 3 gives none outside of a list with 3 in it
 pub malformed : {A : Type 0} {p : ErrorKind → Type 0} {r : Res A} → p Malformed → OnlyMalformed r → Only p r
 malformed {A} {p} h k = only-wider (λ e same. subst p (sym same) h) k
 
