@@ -9,6 +9,7 @@ use lib.ListN.{length, drop, drop-of-length-le}
 use lib.Seq.{drop-cons, take-take}
 use borrow.Author.Tests.{eq-eqb, ne-eqb}
 use Rattle.values.specs.Outcomes.{Res, ok, err, need, each, _>>=_, _>>_, Row}
+use Rattle.values.specs.laws.OutcomeLaws.{need-both}
 use Rattle.values.specs.Types.{layout, contentSize, sameType}
 use Rattle.values.specs.Utf8.{utf8}
 use Rattle.values.specs.code.TypeResults.{typeResult}
@@ -86,16 +87,12 @@ module _ (side : Side) where
   answered t (ok xs) = cond (t && allEncoded xs) values-result.Ok (values-result.Err error.NotUtf8)
   answered t (err e) = values-result.Err e
 
-  both-needed : {X : Type 0} (a b : Bool) (r : Res X) → (need a error.NotUtf8 >> (need b error.NotUtf8 >> r)) ≡ (need (a && b) error.NotUtf8 >> r)
-  both-needed true b r = refl
-  both-needed false b r = refl
-
   all-read : (xs : List Cell) → each (readCell side) xs ≡ (need (allEncoded xs) error.NotUtf8 >> ok (map (λ x. x .row) xs))
   all-read [] = refl
   all-read (x ∷ xs) =
       let one = encoded (typeOf side (x .column)) (x .row) in
       rw (bytes-row (typeOf side (x .column)) (x .row), all-read xs)
-      (then-need error.NotUtf8 one (allEncoded xs) (x .row) (map (λ y. y .row) xs) _∷_ ∙ both-needed one (allEncoded xs) _)
+      (then-need error.NotUtf8 one (allEncoded xs) (x .row) (map (λ y. y .row) xs) _∷_ ∙ need-both one (allEncoded xs) error.NotUtf8 _)
 
   module _ (v : List ℕ) where
     all-answered : (r : Res (List Cell)) → valuesResult (r >>= λ xs. each (readCell side) xs >>= λ read. ok xs) ≡ answered true r

@@ -18,3 +18,4 @@ pub mod SomeLaws
 pub mod AscendingLaws
 pub mod PlaceLaws
 pub mod OutcomeLaws
+pub mod ErrorLaws

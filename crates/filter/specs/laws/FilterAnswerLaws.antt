@@ -9,9 +9,10 @@ use lib.Dec.{leb, eqb}
 use lib.ListN.{length}
 use Rattle.values.specs.Outcomes.{Res, ok, err, errorNumber, each}
 use Rattle.values.specs.Types.{layout, sameType}
+use Rattle.values.specs.laws.ErrorLaws.{error-range}
 use Rattle.values.specs.declared.datatypes.PrimitiveType.the-variants.{String}
 use Rattle.values.specs.declared.error.ErrorKind.{ErrorKind}
-use Rattle.values.specs.declared.error.ErrorKind.the-variants.{Malformed, NotUtf8, NoResultType, DataInvalid, FeatureUnsupported, Overflow, OutsideGrammar, TooLarge, WrongSummary}
+use Rattle.values.specs.declared.error.ErrorKind.the-variants.{Malformed, NotUtf8, OutsideGrammar, TooLarge}
 use Rattle.expr.specs.Operators.{byArity}
 use Rattle.expr.specs.Predicates.{operatorIn, literalsIn}
 use Rattle.projection.specs.declared.question.Question.{Question}
@@ -133,12 +134,4 @@ no-buffer question c t v = go (filterParts question c t v)
     go : (r : Res Bool) → heldNumber (heldAs r) ≡ 2 → ⊥
     go (ok true) e = omega arith
     go (ok false) e = omega arith
-    go (err Malformed) e = omega arith
-    go (err NotUtf8) e = omega arith
-    go (err NoResultType) e = omega arith
-    go (err DataInvalid) e = omega arith
-    go (err FeatureUnsupported) e = omega arith
-    go (err Overflow) e = omega arith
-    go (err OutsideGrammar) e = omega arith
-    go (err TooLarge) e = omega arith
-    go (err WrongSummary) e = omega arith
+    go (err k) e = omega (arith, error-range k)

@@ -8,9 +8,9 @@ use lib.Dec.{eqb}
 use lib.ListN.{length, length-append, take}
 use lib.Seq.{length-take-le}
 use borrow.Author.Tests.{lt-ltb, lt-leb}
-use Rattle.values.specs.Outcomes.{Res, ok, err, errorNumber, need, _>>_}
-use Rattle.values.specs.declared.error.ErrorKind.{ErrorKind}
-use Rattle.values.specs.declared.error.ErrorKind.the-variants.{Malformed, NotUtf8, NoResultType, DataInvalid, FeatureUnsupported, Overflow, OutsideGrammar, TooLarge, WrongSummary}
+use Rattle.values.specs.Outcomes.{Res, ok, err, need, _>>_}
+use Rattle.values.specs.laws.ErrorLaws.{error-range}
+use Rattle.values.specs.declared.error.ErrorKind.the-variants.{Malformed}
 use Rattle.expr.specs.Operators.{projectLimit}
 use Rattle.projection.specs.Steps.{Projected, some, none}
 use Rattle.projection.specs.declared.question.Question.{Question}
@@ -24,21 +24,10 @@ use Rattle.text.specs.Text.{answerLine, digits}
 use Rattle.text.specs.laws.TextLaws.{line-few}
 use Rattle.text.specs.Program.{answerIn, printed, outputSize}
 
-two-digits : (e : ErrorKind) → errorNumber e < 10 ^ 2
-two-digits Malformed = omega arith
-two-digits NotUtf8 = omega arith
-two-digits NoResultType = omega arith
-two-digits DataInvalid = omega arith
-two-digits FeatureUnsupported = omega arith
-two-digits Overflow = omega arith
-two-digits OutsideGrammar = omega arith
-two-digits TooLarge = omega arith
-two-digits WrongSummary = omega arith
-
 number-digits : (r : Res (Projected (List ℕ))) → answerNumber (answerOf r) < 10 ^ 2
 number-digits (ok (some answer)) = omega arith
 number-digits (ok none) = omega arith
-number-digits (err e) = two-digits e
+number-digits (err e) = error-range e .1
 
 pub printed-fits : (input : List ℕ) → length (printed input) ≤ outputSize
 unfolding printed

@@ -1,6 +1,6 @@
 -- Going forward and back through the lines of a `do` block. Assumes nothing.
 use Prim.Native.Nat.{suc}
-use mathlib.Core.Bool.{Bool, true, false, true≢false}
+use mathlib.Core.Bool.{Bool, true, false, _&&_, true≢false}
 use mathlib.Core.List.{List, [], _∷_}
 use mathlib.Core.Path.{_≡_, refl, sym, ap, _∙_}
 use lib.ListN.{length}
@@ -29,6 +29,16 @@ failing e r h = rw h
 
 pub going : {A B : Type 0} {r : Res A} {x : A} (f : A → Res B) → r ≡ ok x → (r >>= f) ≡ f x
 going f h = rw h
+
+-- two tests with one refusal are one test
+pub need-both : {B : Type 0} (a b : Bool) (e : ErrorKind) (r : Res B) → (need a e >> (need b e >> r)) ≡ (need (a && b) e >> r)
+need-both true b e r = refl
+need-both false b e r = refl
+
+-- what is read under a test is handed on under it
+pub need-read : {A B : Type 0} (a : Bool) (e : ErrorKind) (x : A) (f : A → Res B) → ((need a e >> ok x) >>= f) ≡ (need a e >> f x)
+need-read true e x f = refl
+need-read false e x f = refl
 
 -- back: what succeeded has passed its test, and its line
 pub passed : {B : Type 0} (b : Bool) (e : ErrorKind) (r : Res B) {y : B} → (need b e >> r) ≡ ok y → (b ≡ true) × (r ≡ ok y)
