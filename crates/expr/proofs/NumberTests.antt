@@ -19,7 +19,7 @@ use Rattle.expr.specs.Operators.{byArity}
 use Rattle.expr.specs.declared.operator.PredicateOperator.{PredicateOperator}
 use Rattle.expr.specs.declared.operator.PredicateOperator.the-variants.{LessThan, LessThanOrEq, GreaterThan, GreaterThanOrEq, Eq, NotEq}
 
-less-told : (a b : ℤ) → ltZ a b ≡ isLess (compareNumbers a b)
+pub less-told : (a b : ℤ) → ltZ a b ≡ isLess (compareNumbers a b)
 unfolding compareNumbers
 less-told a b = go (ltZ a b) (ltZ b a)
   where

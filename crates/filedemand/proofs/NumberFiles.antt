@@ -85,7 +85,7 @@ module _ {s f : List ℕ} {x : Verdict} (p : VerdictParts s f x) (n : ℕ) (is :
   -- a record that the file may hold is one of its rows, which is met where the record is accepted
   pub covered-row : (v : List ℕ) → Covers f v → (r : Row ℤ) × Isin r rows × (holdsTest s v ≡ ok (holds numberTests leaf r))
   covered-row v c =
-      let h = covered p v c in
+      let h = covered f (p .summary-is) v c in
       let r = mapRow (numberOf n) (h .0) in
       (r, row-iff ends (p .hasMissing) r ordered-ends .1 (sym (numbers-held (p .column) n is (p .ends) (p .hasMissing) (h .0)) ∙ h .2), tested v (h .0) (h .1))
 
@@ -102,4 +102,4 @@ module _ {s f : List ℕ} {x : Verdict} (p : VerdictParts s f x) (n : ℕ) (is :
       let may : mayHold (compareIn (p .column)) (p .ends) (p .hasMissing) raw ≡ true
       = numbers-held (p .column) n is (p .ends) (p .hasMissing) raw ∙ ap (mayHold compareNumbers ends (p .hasMissing)) back ∙ held in
       let read = record-back law r good in
-      (v, record-bytes (p .column) r, covers-row p v raw read may, tested v raw read ∙ ap (λ y. ok (holds numberTests leaf y)) back)
+      (v, record-bytes (p .column) r, covers-row f (p .summary-is) v raw read may, tested v raw read ∙ ap (λ y. ok (holds numberTests leaf y)) back)

@@ -55,7 +55,7 @@ module _ {s f : List ℕ} {x : Verdict} (p : VerdictParts s f x) (n : ℕ) (is :
 
   pub skip-loses-none : x ≡ Skip → (v : List ℕ) → Covers f v → Accepts s v → ⊥
   skip-loses-none skipped v c met =
-      let h = covered p v c in
+      let h = covered f (p .summary-is) v c in
       clash (accepted-met v (h .0) (h .1) met) (unmet skipped (h .0) (sym (bytes-held (p .column) n is (p .ends) (p .hasMissing) (h .0)) ∙ h .2))
 
   pub never-whole : x ≡ Whole → ⊥

@@ -14,7 +14,7 @@ use Rattle.sheet.specs.Records.{value}
 use Rattle.sheet.specs.Sheets.{sheet}
 use Rattle.demand.proofs.ReadBackLaws.{sheetOf}
 use Rattle.summary.specs.EndValues.{compareIn, ordered, mayHold}
-use Rattle.summary.specs.Summaries.{Ends, summary}
+use Rattle.summary.specs.Summaries.{Ends, Summary, summary}
 use Rattle.verdict.specs.Judged.{verdictIn}
 use Rattle.verdict.specs.declared.verdict.Verdict.{Verdict}
 use Rattle.verdict.specs.laws.JudgedLaws.{judged-as}
@@ -51,17 +51,17 @@ verdict-parts s f x e =
       verdict-is = j .is;
     }
 
--- ---- a value that the file may hold
-module _ {s f : List ℕ} {x : Verdict} (p : VerdictParts s f x) (v : List ℕ) where
-  abbrev Held : Row (List ℕ) → Type 0
-  Held row = mayHold (compareIn (p .column)) (p .ends) (p .hasMissing) row ≡ true
+-- ---- a value that a file may hold, by what its summary says
+abbrev Held : Summary → Row (List ℕ) → Type 0
+Held y row = mayHold (compareIn (y .column)) (y .ends) (y .hasMissing) row ≡ true
 
-  pub covered : Covers f v → (row : Row (List ℕ)) × (value (layout (p .column)) v ≡ ok row) × Held row
+module _ (f : List ℕ) {y : Summary} (is : summary f ≡ ok y) (v : List ℕ) where
+  pub covered : Covers f v → (row : Row (List ℕ)) × (value (layout (y .column)) v ≡ ok row) × Held y row
   unfolding covers
   covered e =
-      let r = gone (value (layout (p .column)) v) _ (sym (going _ (p .summary-is)) ∙ e) in
+      let r = gone (value (layout (y .column)) v) _ (sym (going _ is) ∙ e) in
       (r .0, r .1, ok-inj (r .2))
 
-  pub covers-row : (row : Row (List ℕ)) → value (layout (p .column)) v ≡ ok row → Held row → Covers f v
+  pub covers-row : (row : Row (List ℕ)) → value (layout (y .column)) v ≡ ok row → Held y row → Covers f v
   unfolding covers
-  covers-row row is held = going _ (p .summary-is) ∙ going _ is ∙ ap ok held
+  covers-row row read held = going _ is ∙ going _ read ∙ ap ok held

@@ -1,3 +1,5 @@
 -- Lemmas that the proofs share.
 pub mod EndReads
 pub mod SummaryReads
+pub mod EncodedEnds
+pub mod OrderedEnds

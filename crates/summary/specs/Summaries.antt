@@ -1,7 +1,7 @@
 -- Files known only by their ends: what a summary says of a file, and how it stands in bytes. One rule of document 02, #104, a line; what fails one is 3.
 -- Assumes nothing.
 use Prim.Native.Nat.{ℕ, _+_, _*_, _%_}
-use mathlib.Core.Bool.{Bool, true, false}
+use mathlib.Core.Bool.{Bool, true, false, cond}
 use mathlib.Core.List.{List}
 use lib.Dec.{eqb, leb}
 use lib.ListN.{length}
@@ -18,6 +18,10 @@ infix 30 _to_
 pub data Ends (A : Type 0) : Type 0 where
   nonePresent : Ends A
   _to_ : A → A → Ends A
+
+abbrev pub somePresent : {A : Type 0} → Ends A → Bool
+somePresent nonePresent = false
+somePresent (l to h) = true
 
 -- 02: "for each file, the lowest and highest partition value and whether a missing one occurs"
 pub record Summary : Type 0 where
@@ -44,6 +48,10 @@ saysNone flag = leb 2 flag
 
 abbrev pub highestFlag : ℕ
 highestFlag = 1 + 2
+
+-- the flag byte, by whether a missing value occurs, and whether some value is present
+abbrev pub flagOf : Bool → Bool → ℕ
+flagOf hasMissing some = cond hasMissing 1 0 + cond some 0 2
 
 -- 02: "plus 2 for none present, when both ends are marked missing"; where a value is present neither end is marked missing
 abbrev pub endsOf : {A : Type 0} → Bool → Row A → Row A → Res (Ends A)

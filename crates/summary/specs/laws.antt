@@ -1,3 +1,4 @@
 -- The laws about the definitions of `summary`.
+pub mod SummaryBytesLaws
 pub mod SummaryLaws
 pub mod EndLaws

@@ -1,2 +1,3 @@
 // Summaries of files, read where they lie.
+pub mod checks;
 pub mod summary;

@@ -11,6 +11,7 @@ ghost use lib.ListN.{length};
 ghost use Rattle.values.specs.Types.{layout};
 ghost use Rattle.sheet.specs.Records.{recordSize, recordAt, value};
 ghost use Rattle.summary.specs.Summaries as summaries;
+ghost use Rattle.summary.specs.Summaries.{flagOf};
 ghost use Rattle.summary.specs.code.SummaryAnswers.{isEnd, summaryResult};
 
 // Two value records, then a type byte, then a flag byte.
@@ -36,6 +37,21 @@ pub struct Summary {
 pub enum SummaryResult {
     Ok(Summary),
     Err(ErrorKind),
+}
+
+// The flag byte, by whether a missing value occurs, and whether some value is present.
+pub fn flag_of(missing: bool, present: bool) -> u8
+    ensures { λ r. ⌜ r ≡ flagOf missing present ⌝ }
+{
+    if missing {
+        if present {
+            HAS_MISSING
+        } else {
+            HAS_MISSING + NONE_PRESENT
+        }
+    } else {
+        if present { 0 } else { NONE_PRESENT }
+    }
 }
 
 // Whether record k can be an end: a value where some are present, and marked missing where none is.

@@ -5,15 +5,11 @@ use mathlib.Core.List.{List, []}
 use mathlib.Core.Path.{_≡_, refl, sym, ap, ap₂, _∙_}
 use lib.IntN.{ℤ, pos}
 use lib.Signed.{_≤ℤ_, _<ℤ_}
-use borrow.Author.Tests.{not-true, not-false}
 use Rattle.values.specs.SomeEvery.{some}
 use Rattle.values.specs.Order.{compareBytes, isLess}
 use Rattle.values.specs.Outcomes.{missing}
 use Rattle.values.specs.laws.OrderLaws.{is-below, is-at-most}
-use Rattle.values.specs.Types.{layout, sameType}
-use Rattle.values.specs.Utf8.{utf8}
-use Rattle.values.specs.declared.datatypes.PrimitiveType.{PrimitiveType}
-use Rattle.values.specs.declared.datatypes.PrimitiveType.the-variants.{String}
+use Rattle.values.specs.Types.{layout}
 use Rattle.values.specs.declared.error.ErrorKind.the-variants.{WrongSummary}
 use Rattle.expr.specs.Holds.{bytesTests, numberTests, missingMeets, presentMeets, holds}
 use Rattle.expr.specs.Operators.{Operator, byArity}
@@ -24,35 +20,17 @@ use Rattle.expr.specs.declared.operator.PredicateOperator.{PredicateOperator}
 use Rattle.sheet.specs.code.ReadAnswers.{contentAt, numberAt, contentsAt, numbersAt}
 use Rattle.sheet.specs.declared.sheet.Sheet.{Sheet}
 use Rattle.summary.specs.Summaries.{nonePresent, _to_}
-use Rattle.summary.specs.code.SummaryAnswers.{endsAt}
 use Rattle.summary.specs.declared.summary.Summary.{Summary}
 use Rattle.ends.specs.RuledOut.{ruledOut}
 use Rattle.verdict.specs.TextVerdicts.{textVerdict}
 use Rattle.ends.specs.Between.{between}
 use Rattle.ends.specs.code.EndAnswers.{contentLeaf}
-use Rattle.verdict.specs.code.VerdictAnswers.{verdictBy, endsUtf8, numbersJudged, bytesJudged, verdictResult}
+use Rattle.verdict.specs.code.VerdictAnswers.{verdictBy, numbersJudged, bytesJudged, verdictResult}
 use Rattle.verdict.specs.declared.verdict.Verdict.{Verdict}
 use Rattle.verdict.specs.declared.verdict.Verdict.the-variants.{Skip, Read}
 use Rattle.verdict.specs.declared.verdict.VerdictResult.{VerdictResult}
 use Rattle.verdict.specs.declared.verdict.VerdictResult.the-variants as verdict-result
 use Rattle.verdict.specs.laws.OperatorVerdictLaws.{by-operator}
-
--- ---- whether the ends are what their type asks for
-module _ (column : PrimitiveType) (there : Bool) (f : List ℕ) where
-  abbrev encoded : Bool
-  encoded = not (sameType column String) || endsUtf8 (endsAt there f)
-
-  pub none-there : column ≡ String → not there ≡ true → true ≡ encoded
-  none-there is h = rw (is, not-true there h)
-
-  pub lowest-broken : column ≡ String → not there ≡ false → utf8 (contentAt f 0) ≡ false → false ≡ encoded
-  lowest-broken is h e = rw (is, not-false there h, e)
-
-  pub highest-tested : {r : Bool} → column ≡ String → not there ≡ false → utf8 (contentAt f 0) ≡ true → r ≡ utf8 (contentAt f 1) → r ≡ encoded
-  highest-tested is h e t = rw (is, not-false there h, e) t
-
-  pub no-string : sameType column String ≡ false → true ≡ encoded
-  no-string e = rw e
 
 -- whether a missing value meets a sheet's operator
 abbrev missingMet : Sheet → Bool

@@ -5,9 +5,10 @@ use mathlib.Core.List.{List, [], map}
 use mathlib.Core.Path.{_≡_, refl, sym, ap, ap₂, _∙_}
 use lib.IntN.{pos}
 use lib.ListN.{length, length-map}
-use borrow.Author.Tests.{eqb-true, not-true, not-false}
+use borrow.Author.Tests.{not-true, not-false}
 use Rattle.values.specs.Order.{compareNumbers}
 use Rattle.values.specs.Outcomes.{Res, ok, need, _>>_}
+use Rattle.values.specs.laws.OutcomeLaws.{need-both}
 use Rattle.values.specs.Types.{number, contentSize, layout, sameType}
 use Rattle.values.specs.code.TypeResults.{isBytes}
 use Rattle.values.specs.laws.TypesLaws.{bytes-layout, number-layout}
@@ -21,17 +22,17 @@ use Rattle.sheet.specs.Values.{mapLiterals, numberOf}
 use Rattle.sheet.specs.code.Contents.{allUtf8, numberIn}
 use Rattle.sheet.specs.code.ReadAnswers.{contentsAt, Placed}
 use Rattle.sheet.specs.declared.sheet.Sheet.{Sheet}
-use Rattle.sheet.specs.laws.PartLaws.{number-of-content}
 use Rattle.sheet.specs.laws.ReadLaws.{map-leaf, placed-numbers, length-placed, literals-taken}
 use Rattle.summary.specs.EndValues.{mapEnds, compareIn, ordered}
 use Rattle.summary.specs.Summaries.{Ends, _to_}
+use Rattle.summary.specs.code.SummaryAnswers as answers
 use Rattle.summary.specs.code.SummaryAnswers.{endsAt, EndsThere, summaryAt}
 use Rattle.summary.specs.declared.summary.Summary.{Summary}
-use Rattle.summary.specs.laws.EndLaws.{numbers-ordered, bytes-ordered}
+use Rattle.summary.specs.laws.EndLaws.{number-end, numbers-ordered, bytes-ordered}
 use Rattle.verdict.specs.Judged.{verdictIn, judged}
 use Rattle.verdict.specs.Verdicts.{numberVerdict}
 use Rattle.ends.specs.code.EndAnswers.{numberLeaf, contentLeaf}
-use Rattle.verdict.specs.code.VerdictAnswers.{endsUtf8, numberEndsAt, numbersJudged, bytesJudged, verdictResult}
+use Rattle.verdict.specs.code.VerdictAnswers.{numberEndsAt, numbersJudged, bytesJudged, verdictResult}
 use Rattle.verdict.specs.declared.verdict.Verdict.{Verdict}
 use Rattle.verdict.specs.declared.verdict.VerdictResult.{VerdictResult}
 use Rattle.verdict.specs.declared.verdict.VerdictResult.the-variants as verdict-result
@@ -42,8 +43,8 @@ number-ends : (column : PrimitiveType) (n : ℕ) → layout column ≡ number n 
     → mapEnds (numberOf n) (endsAt there f) ≡ numberEndsAt (layout column) there f
 number-ends column n is f false at = refl
 number-ends column n is f true at =
-    let e = rw is at (at refl) in
-    rw is (ap₂ _to_ (sym (number-of-content n f 0 (eqb-true _ n (e .lowest .fitting)))) (sym (number-of-content n f 1 (eqb-true _ n (e .highest .fitting)))))
+    let e = at refl in
+    ap₂ _to_ (sym (number-end column n is f 0 (e .lowest))) (sym (number-end column n is f 1 (e .highest)))
 
 module _ (x : Sheet) (s records : List ℕ) (y : Summary) (f : List ℕ) (placed : Placed (layout (x .head .column)) s records (x .count))
     (taken : takes (byArity (x .head .operator)) (x .count) ≡ true) where
@@ -63,7 +64,7 @@ module _ (x : Sheet) (s records : List ℕ) (y : Summary) (f : List ℕ) (placed
   ends = endsAt (y .present) f
 
   abbrev pub endsEncoded : Bool
-  endsEncoded = not (sameType (y .column) String) || endsUtf8 ends
+  endsEncoded = answers.endsEncoded (y .column) ends
 
   abbrev answer : Res Verdict
   answer = judged column (contentLeaf x s records) (summaryAt y f)
@@ -79,11 +80,7 @@ module _ (x : Sheet) (s records : List ℕ) (y : Summary) (f : List ℕ) (placed
       judged-checks column (contentLeaf x s records) (summaryAt y f)
       ∙ ap (λ ls. need (not (sameType column String) || allUtf8 ls) NotUtf8 >> (need endsEncoded NotUtf8 >> afterUtf8))
       (literals-taken (layout column) s records (x .count) a placed taken)
-      ∙ both literalsEncoded endsEncoded afterUtf8
-    where
-      both : (b c : Bool) (q : Res Verdict) → (need b NotUtf8 >> (need c NotUtf8 >> q)) ≡ (need (b && c) NotUtf8 >> q)
-      both true c q = refl
-      both false c q = refl
+      ∙ need-both literalsEncoded endsEncoded NotUtf8 afterUtf8
 
   -- as the two calls for UTF-8 say it
   module _ {b c : Bool} (literals : b ≡ literalsEncoded) (encoded : c ≡ endsEncoded) where

@@ -8,40 +8,20 @@ use sheet::content::literals_encoded;
 use sheet::literal::content_of;
 use sheet::literal::number_of;
 use sheet::sheet::Sheet;
+use summary::checks::ends_encoded;
 use summary::summary::Summary;
-use values::datatypes::PrimitiveType;
 use values::error::ErrorKind;
 use values::order::is_less;
-use values::utf8::is_utf8;
-ghost use mathlib.Core.Bool.{true, false, not, _||_};
+ghost use mathlib.Core.Bool.{true};
 ghost use mathlib.Core.Path.{_≡_};
-ghost use Rattle.values.specs.Types.{layout, sameType};
-ghost use Rattle.values.specs.declared.datatypes.PrimitiveType.the-variants.{String};
+ghost use Rattle.values.specs.Types.{layout};
 ghost use Rattle.expr.specs.Operators.{byArity};
 ghost use Rattle.expr.specs.code.OperatorAnswers.{takes};
 ghost use Rattle.sheet.specs.code.ReadAnswers.{Placed};
-ghost use Rattle.summary.specs.code.SummaryAnswers.{EndsThere, endsAt, summaryAt};
+ghost use Rattle.summary.specs.code.SummaryAnswers.{EndsThere, summaryAt};
 ghost use Rattle.verdict.specs.Judged.{judged};
 ghost use Rattle.ends.specs.code.EndAnswers.{contentLeaf};
-ghost use Rattle.verdict.specs.code.VerdictAnswers.{endsUtf8, numbersJudged, bytesJudged, verdictResult};
-
-// Whether the ends are what their type asks for.
-fn ends_encoded(file: Summary, f: &[u8]) -> bool
-    requires { ⌜ (file .present ≡ true → EndsThere (layout (file .column)) (now f)) ⌝ }
-    ensures { λ r. ⌜ r ≡ (not (sameType (file .column) String) || endsUtf8 (endsAt (file .present) (now (f .entry)))) ⌝ }
-{
-    let column = file.column;
-    if let PrimitiveType::String = column {
-        if !file.present {
-            return true;
-        }
-        if !is_utf8(content_of(f, 0)) {
-            return false;
-        }
-        return is_utf8(content_of(f, 1));
-    }
-    true
-}
+ghost use Rattle.verdict.specs.code.VerdictAnswers.{numbersJudged, bytesJudged, verdictResult};
 
 // The verdict on a file of numbers.
 fn judge_numbers(x: Sheet, s: &[u8], records: &[u16], file: Summary, f: &[u8]) -> VerdictResult

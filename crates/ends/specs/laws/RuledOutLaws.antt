@@ -29,10 +29,10 @@ module _ (low high v : List ℕ) (inside : liesIn compareBytes (low to high) v �
   sides : (not (isLess (compareBytes v low)) ≡ true) × (not (isLess (compareBytes high v)) ≡ true)
   sides = and-both _ _ inside
 
-  not-lower : compareBytes v low ≡ Less → ⊥
+  pub not-lower : compareBytes v low ≡ Less → ⊥
   not-lower = not-below _ .0 (sides .0)
 
-  not-higher : compareBytes high v ≡ Less → ⊥
+  pub not-higher : compareBytes high v ≡ Less → ⊥
   not-higher = not-below _ .0 (sides .1)
 
   -- between two that are one there is no other

@@ -18,11 +18,12 @@ use Rattle.sheet.specs.laws.RefusalLaws.{Only, only-ok, only-bind, only-need, m
 use Rattle.answers.specs.Answers.{answerOf, answerNumber}
 use Rattle.answers.specs.declared.answer.Answer.the-variants.{BufferTooSmall}
 use Rattle.summary.specs.EndValues.{compareIn, ordered}
+use Rattle.summary.specs.code.SummaryAnswers.{endsEncoded}
 use Rattle.summary.specs.laws.SummaryLaws.{summary-only}
 use Rattle.summary.specs.Summaries.{Summary, summary}
 use Rattle.verdict.specs.Judged.{judged}
 use Rattle.verdict.specs.declared.verdict.Verdict.{Verdict}
-use Rattle.verdict.specs.laws.JudgedLaws.{literalsEncoded, endsEncoded, judged-checks}
+use Rattle.verdict.specs.laws.JudgedLaws.{literalsEncoded, judged-checks}
 use Rattle.files.specs.TestSummary.{testSummary, verdictBuffer, verdictByte, testAnswer}
 
 -- what is refused is Malformed, not UTF-8, or a wrong summary
@@ -32,7 +33,7 @@ Refusal e = (e ≡ Malformed) ⊎ ((e ≡ NotUtf8) ⊎ (e ≡ WrongSummary))
 judged-only : (column : PrimitiveType) (leaf : Predicate (List ℕ)) (file : Summary) → Only Refusal (judged column leaf file)
 judged-only column leaf file =
     rw (judged-checks column leaf file)
-    (only-need (literalsEncoded column leaf file) NotUtf8 _ (inr (inl refl)) (only-need (endsEncoded column leaf file) NotUtf8 _ (inr (inl refl)) (
+    (only-need (literalsEncoded column leaf file) NotUtf8 _ (inr (inl refl)) (only-need (endsEncoded (file .column) (file .ends)) NotUtf8 _ (inr (inl refl)) (
     only-need (sameType column (file .column)) WrongSummary _ (inr (inr refl)) (
     only-need (ordered (compareIn column) (file .ends)) WrongSummary _ (inr (inr refl)) only-ok))))
 

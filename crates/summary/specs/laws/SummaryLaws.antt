@@ -6,22 +6,22 @@ use mathlib.Core.List.{List}
 use mathlib.Core.Path.{_≡_, refl, ap, ap₂, _∙_}
 use lib.Dec.{eqb, leb}
 use lib.ListN.{length}
-use borrow.Author.Tests.{eqb-true}
 use Rattle.values.specs.Numbered.{find}
 use Rattle.values.specs.Outcomes.{Res, ok, err, Row, missing, present}
-use Rattle.values.specs.laws.OutcomeLaws.{ok-inj, ok-not-err, passed, gone}
+use Rattle.values.specs.laws.OutcomeLaws.{ok-not-err}
+use Rattle.values.specs.laws.TypesLaws.{type-found}
 use Rattle.values.specs.Types.{types, layout}
 use Rattle.values.specs.Words.{word}
 use Rattle.values.specs.declared.datatypes.PrimitiveType.{PrimitiveType}
 use Rattle.values.specs.declared.error.ErrorKind.{ErrorKind}
-use Rattle.values.specs.declared.error.ErrorKind.the-variants.{Malformed}
 use Rattle.sheet.specs.Records.{recordSize, recordAt, value}
 use Rattle.sheet.specs.code.ReadAnswers.{contentAt, LiteralAt}
 use Rattle.sheet.specs.laws.RefusalLaws.{OnlyMalformed, only-ok, only-err, only-bind, must, value-only, find-only}
 use Rattle.sheet.specs.laws.RecordLaws.{fits-room, content-read, value-read}
 use Rattle.summary.specs.Summaries as summaries
-use Rattle.summary.specs.Summaries.{Ends, _to_, typeAt, flagAt, summarySize, saysNone, highestFlag, endsOf, summary}
-use Rattle.summary.specs.code.SummaryAnswers.{endsAt, EndsThere, summaryAt, somePresent, summaryResult}
+use Rattle.summary.specs.Summaries.{Ends, nonePresent, _to_, somePresent, typeAt, flagAt, summarySize, saysNone, highestFlag, endsOf, summary}
+use Rattle.summary.specs.code.SummaryAnswers.{endsAt, EndsThere, summaryAt, summaryResult}
+use Rattle.summary.specs.laws.SummaryBytesLaws.{lowOf, highOf, summary-parts, word-of-one}
 use Rattle.summary.specs.declared.summary.Summary.{Summary}
 use Rattle.summary.specs.declared.summary.SummaryResult.{SummaryResult}
 use Rattle.summary.specs.declared.summary.SummaryResult.the-variants as summary-result
@@ -48,31 +48,21 @@ record Found (column : PrimitiveType) (f : List ℕ) (ends : Ends (List ℕ)) : 
   found-are : ends ≡ endsAt (somePresent ends) f
   found-there : somePresent ends ≡ true → EndsThere (layout column) f
 
-found : (column : PrimitiveType) (f : List ℕ) → length f ≡ summarySize → (none : Bool) (low high : Row (List ℕ)) (ends : Ends (List ℕ))
-    → value (layout column) (recordAt f 0) ≡ ok low → value (layout column) (recordAt f 1) ≡ ok high → endsOf none low high ≡ ok ends → Found column f ends
-found column f sized true missing missing ends l h e = rw (← ok-inj e) (record { found-are = refl; found-there = λ t. absurd (false≢true t) })
-found column f sized true missing (present b) ends l h e = ok-not-err e
-found column f sized true (present a) high ends l h e = ok-not-err e
-found column f sized false missing high ends l h e = ok-not-err e
-found column f sized false (present a) missing ends l h e = ok-not-err e
-found column f sized false (present a) (present b) ends l h e =
-    rw (← ok-inj e) (record {
+found : (column : PrimitiveType) (f : List ℕ) → length f ≡ summarySize → (ends : Ends (List ℕ))
+    → value (layout column) (recordAt f 0) ≡ ok (lowOf ends) → value (layout column) (recordAt f 1) ≡ ok (highOf ends) → Found column f ends
+found column f sized nonePresent l h = record { found-are = refl; found-there = λ t. absurd (false≢true t) }
+found column f sized (a to b) l h =
+    record {
       found-are = ap₂ _to_ (end-content column f 0 a (omega (arith, sized)) l) (end-content column f 1 b (omega (arith, sized)) h);
       found-there = λ t. record { lowest = end-there column f 0 a (omega (arith, sized)) l; highest = end-there column f 1 b (omega (arith, sized)) h };
-    })
+    }
 
 pub summary-read : (f : List ℕ) (y : summaries.Summary) → summary f ≡ ok y → SummaryRead f y
-unfolding summary
 summary-read f y e =
-    let size = passed (eqb (length f) summarySize) Malformed _ e in
-    let column = gone (find types (word typeAt 1 f)) _ (size .1) in
-    let flag = passed (leb (word flagAt 1 f) highestFlag) Malformed _ (column .2) in
-    let low = gone (value (layout (column .0)) (recordAt f 0)) _ (flag .1) in
-    let high = gone (value (layout (column .0)) (recordAt f 1)) _ (low .2) in
-    let ends = gone (endsOf (saysNone (word flagAt 1 f)) (low .0) (high .0)) _ (high .2) in
-    let sized = eqb-true (length f) summarySize (size .0) in
-    let here = found (column .0) f sized (saysNone (word flagAt 1 f)) (low .0) (high .0) (ends .0) (low .1) (high .1) (ends .1) in
-    rw (← ok-inj (ends .2)) (record { sized = sized; typed = column .1; ends-are = here .found-are; there = here .found-there })
+    let p = summary-parts f y e in
+    let here = found (y .column) f (p .sized) (y .ends) (p .lowest) (p .highest) in
+    let typed = ap (find types) (word-of-one (p .type-is)) ∙ type-found (y .column) in
+    record { sized = p .sized; typed = typed; ends-are = here .found-are; there = here .found-there }
 
 -- ---- what is no summary is 3
 ends-only : {A : Type 0} (none : Bool) (low high : Row A) → OnlyMalformed (endsOf none low high)

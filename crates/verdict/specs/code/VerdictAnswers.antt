@@ -1,12 +1,11 @@
 -- What the code of verdicts answers, as the definitions have it. Assumes nothing.
 use Prim.Native.Nat.{ℕ}
-use mathlib.Core.Bool.{Bool, true, false, cond, _&&_}
+use mathlib.Core.Bool.{Bool, true, false, cond}
 use mathlib.Core.List.{List}
 use lib.IntN.{ℤ}
 use Rattle.values.specs.Order.{compareNumbers, compareBytes}
 use Rattle.values.specs.Outcomes.{Res, ok, err, need, _>>_}
 use Rattle.values.specs.Types.{Layout, layout}
-use Rattle.values.specs.Utf8.{utf8}
 use Rattle.values.specs.declared.error.ErrorKind.the-variants.{WrongSummary}
 use Rattle.sheet.specs.code.ReadAnswers.{numberAt}
 use Rattle.sheet.specs.declared.sheet.Sheet.{Sheet}
@@ -25,11 +24,6 @@ use Rattle.verdict.specs.declared.verdict.VerdictResult.the-variants as 
 -- by whether some value meets the predicate, and whether some does not
 abbrev pub verdictBy : Bool → Bool → Verdict
 verdictBy met unmet = cond met (cond unmet Read Whole) Skip
-
--- whether the ends are UTF-8
-abbrev pub endsUtf8 : Ends (List ℕ) → Bool
-endsUtf8 nonePresent = true
-endsUtf8 (l to h) = utf8 l && utf8 h
 
 -- the ends of a file of numbers are the numbers in the first two records
 abbrev pub numberEndsAt : Layout → Bool → List ℕ → Ends ℤ

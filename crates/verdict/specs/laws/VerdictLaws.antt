@@ -109,6 +109,14 @@ module _ (p : Predicate (List ℕ)) (ends : Ends (List ℕ)) (hasMissing : Bool)
       unmet : (b : Bool) → hasMissing ≡ true → b ≡ true → not (hasMissing && b) ≡ true → ⊥
       unmet b h k t = true≢false (sym t ∙ rw (h, k))
 
+  pub text-skips : ruledOut p ends ≡ true → (hasMissing ≡ true → holds bytesTests p missing ≡ false) → textVerdict p ends hasMissing ≡ Skip
+  unfolding textVerdict
+  text-skips r f = rw r (go hasMissing f)
+    where
+      go : (b : Bool) → (b ≡ true → holds bytesTests p missing ≡ false) → cond (not (b && holds bytesTests p missing)) Skip Read ≡ Skip
+      go true f = rw (f refl)
+      go false f = refl
+
   pub text-not-whole : textVerdict p ends hasMissing ≡ Whole → ⊥
   unfolding textVerdict
   text-not-whole e = go (ruledOut p ends && not (hasMissing && holds bytesTests p missing)) e

@@ -1,15 +1,15 @@
--- `file::ends_encoded` meets its contract: of a String both ends are tested, where there are any. Assumes nothing.
+-- `checks::ends_encoded` meets its contract: of a String both ends are tested, where there are any. Assumes nothing.
 use mathlib.Core.Path.{refl, sym, ap, _∙_}
 use denote.Ref.{now}
 use Rattle.values.specs.Utf8.{utf8}
 use Rattle.values.specs.declared.datatypes.PrimitiveType.the-variants.{String}
 use Rattle.values.specs.laws.TestLaws.{called-no, called-yes}
 use Rattle.values.proofs.TypeArms.{other-type}
-use Rattle.verdict.proofs.FileArms.{none-there, lowest-broken, highest-tested, no-string}
+use Rattle.summary.proofs.EncodedEnds.{none-there, lowest-broken, highest-tested, no-string}
 use borrow.Author.Needs.{needs}
 use borrow.Author.Tests.{not-false}
-use Rattle.verdict.proofs.file.ends_encoded.Statement.{statement}
-use Rattle.verdict.proofs.file.ends_encoded.Tie as tie
+use Rattle.summary.proofs.checks.ends_encoded.Statement.{statement}
+use Rattle.summary.proofs.checks.ends_encoded.Tie as tie
 
 returns : tie.Need-returns
 returns c =
