@@ -3,7 +3,7 @@ use Prim.Native.Nat.{ℕ}
 use mathlib.Core.Bool.{Bool, true, false}
 use mathlib.Core.List.{List, [], _∷_}
 use Rattle.values.specs.declared.error.ErrorKind.{ErrorKind}
-use Rattle.values.specs.declared.error.ErrorKind.the-variants.{Malformed, NotUtf8, NoResultType, DataInvalid, FeatureUnsupported, Overflow, OutsideGrammar, TooLarge, WrongSummary}
+use Rattle.values.specs.declared.error.ErrorKind.the-variants.{Malformed, NotUtf8, NoResultType, DataInvalid, FeatureUnsupported, Overflow, OutsideGrammar, TooLarge, WrongSummary, DifferentTypes}
 
 -- document 01's numbers of the refusals, and 02's from 9 on; 2, the buffer's, comes before all of these and stands in `Routines` (`api`)
 abbrev pub errorNumber : ErrorKind → ℕ
@@ -16,6 +16,7 @@ errorNumber Overflow = 8
 errorNumber OutsideGrammar = 9
 errorNumber TooLarge = 10
 errorNumber WrongSummary = 11
+errorNumber DifferentTypes = 12
 
 pub data Res (A : Type 0) : Type 0 where
   ok : A → Res A

@@ -19,6 +19,8 @@ pub enum ErrorKind {
     TooLarge,
     // The lowest end of a file's summary is above its highest, or its type is not the sheet's.
     WrongSummary,
+    // Two summaries are to be pooled whose types differ.
+    DifferentTypes,
 }
 
 impl ErrorKind {
@@ -36,6 +38,7 @@ impl ErrorKind {
             ErrorKind::OutsideGrammar => 9,
             ErrorKind::TooLarge => 10,
             ErrorKind::WrongSummary => 11,
+            ErrorKind::DifferentTypes => 12,
         }
     }
 }
