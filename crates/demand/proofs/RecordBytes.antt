@@ -13,10 +13,10 @@ use Rattle.sheet.specs.Records.{missingMark}
 use Rattle.sheet.specs.Values.{mapRow}
 use Rattle.write.specs.Written.{valueRecord, numberBytes}
 
-joined : (xs ys : List ℕ) → AllBytes xs → AllBytes ys → AllBytes (xs ++ ys)
-joined [] ys h k i = k i
-joined (x ∷ xs) ys h k zero = h 0
-joined (x ∷ xs) ys h k (suc i) = joined xs ys (λ j. h (suc j)) k i
+pub both-bytes : (xs ys : List ℕ) → AllBytes xs → AllBytes ys → AllBytes (xs ++ ys)
+both-bytes [] ys h k i = k i
+both-bytes (x ∷ xs) ys h k zero = h 0
+both-bytes (x ∷ xs) ys h k (suc i) = both-bytes xs ys (λ j. h (suc j)) k i
 
 zeros : (n : ℕ) → AllBytes (replicate n 0)
 zeros zero i = omega arith
@@ -29,11 +29,11 @@ number-bytes (bytes n) z = λ i. omega arith
 
 -- the fields of a record: its next, its length, and the rest
 fields : (next size : ℕ) (rest : List ℕ) → AllBytes rest → AllBytes (leBytes 2 next ++ (leBytes 2 size ++ rest))
-fields next size rest h = joined (leBytes 2 next) (leBytes 2 size ++ rest) (all-bytes 2 next) (joined (leBytes 2 size) rest (all-bytes 2 size) h)
+fields next size rest h = both-bytes (leBytes 2 next) (leBytes 2 size ++ rest) (all-bytes 2 next) (both-bytes (leBytes 2 size) rest (all-bytes 2 size) h)
 
 pub record-bytes : (ty : PrimitiveType) (r : Row ℤ) → AllBytes (valueRecord (mapRow (λ z. numberBytes (layout ty) z) r))
 record-bytes ty missing = fields 0 missingMark (replicate contentSize 0) (zeros contentSize)
 record-bytes ty (present z) =
     let bs = numberBytes (layout ty) z in
     fields 0 (length bs) (bs ++ replicate (contentSize - length bs) 0)
-    (joined bs (replicate (contentSize - length bs) 0) (number-bytes (layout ty) z) (zeros (contentSize - length bs)))
+    (both-bytes bs (replicate (contentSize - length bs) 0) (number-bytes (layout ty) z) (zeros (contentSize - length bs)))

@@ -41,13 +41,13 @@ use Rattle.files.specs.TestSummary.{testSummary}
 
 -- ---- an Int under Truncate 10: the leaf < 300 and its predicates ≤ 290 and < 300; a file of 300 to 303, and the row 305 of 300; a file of 0 to 2, and the row 5
 -- of 0
-abbrev high : List ℕ
+abbrev pub high : List ℕ
 high = summaryOf 1 0 (int (pos 300)) (int (pos 303))
 
 abbrev low : List ℕ
 low = summaryOf 1 0 (int (pos 0)) (int (pos 2))
 
-rows : RowOf below300 (intValue (pos 300)) (intValue (pos 305)) × RowOf below300 (intValue (pos 0)) (intValue (pos 5))
+pub rows : RowOf below300 (intValue (pos 300)) (intValue (pos 305)) × RowOf below300 (intValue (pos 0)) (intValue (pos 5))
 unfolding transformValue head transformOf value content transformedRow resultType numberPartition partition transformNumber inType truncated floorMod
 rows = (refl, refl)
 
@@ -55,7 +55,7 @@ verdicts : Skips atMost290 high × Wholly less300 low
 unfolding testSummary sheet fields head transformOf content value summary judged numberVerdict between compareNumbers answerSheet
 verdicts = (refl, refl)
 
-held : Covers high (intValue (pos 300)) × Covers low (intValue (pos 0))
+pub held : Covers high (intValue (pos 300)) × Covers low (intValue (pos 0))
 unfolding covers summary value content compareNumbers
 held = (refl, refl)
 
@@ -85,10 +85,10 @@ only-rows-in-whole-file-asks = (below300, less300, low, intValue (pos 5), intVal
 abbrev isNullInt : List ℕ
 isNullInt = sheetOf 101 1 0 0 []
 
-abbrev emptyFile : List ℕ
+abbrev pub emptyFile : List ℕ
 emptyFile = noValues 1 2
 
-abbrev missingAlone : List ℕ
+abbrev pub missingAlone : List ℕ
 missingAlone = noValues 1 3
 
 no-values : Skips isNullInt emptyFile × Wholly isNullInt missingAlone

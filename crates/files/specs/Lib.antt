@@ -1,5 +1,6 @@
 -- The definitions of `files`, in the order in which to read them.
 pub mod TestSummary
 pub mod FileDemand
+pub mod PoolDemand
 pub mod FileRequests
 pub mod laws

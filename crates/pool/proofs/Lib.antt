@@ -1,0 +1,3 @@
+-- Lemmas that several proofs share.
+pub mod PoolArms
+pub mod HandedArms

@@ -1,0 +1,2 @@
+// One summary for two files.
+pub mod pool;
