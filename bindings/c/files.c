@@ -1,7 +1,7 @@
 /*
  * A bench terminal's use of a file list: the leaf `< 300` of an Int column under Truncate 10, and files of which only the ends of
- * their partition values are known. Prints a line a file, skip, read or whole, and returns non-zero if that is not what it should
- * be.
+ * their partition values are known. Prints a line a file, skip, read or whole; then the same of groups of these files, by their
+ * pooled summaries. Returns non-zero if that is not what it should be.
  */
 #include "example.h"
 
@@ -26,6 +26,27 @@ static void put_summary(uint8_t *summary, const struct file *file)
 }
 
 /*
+ * Adds a file to the summary of a group: its ends take the place of the group's where they are the pooled ones. After a refusal
+ * the group's summary is as it was.
+ */
+static uint32_t add_file(uint8_t *group, const uint8_t *file)
+{
+    uint64_t lowest, highest, flag;
+    uint32_t answer = weighpick_pool(group, WEIGHPICK_SUMMARY, file, WEIGHPICK_SUMMARY, &lowest, &highest, &flag);
+    if (answer != WEIGHPICK_RESULT) {
+        return answer;
+    }
+    if (lowest == WEIGHPICK_SECOND) {
+        memcpy(group + WEIGHPICK_LOWEST_AT, file + WEIGHPICK_LOWEST_AT, WEIGHPICK_RECORD);
+    }
+    if (highest == WEIGHPICK_SECOND) {
+        memcpy(group + WEIGHPICK_HIGHEST_AT, file + WEIGHPICK_HIGHEST_AT, WEIGHPICK_RECORD);
+    }
+    group[WEIGHPICK_FLAG_AT] = (uint8_t)flag;
+    return answer;
+}
+
+/*
  * The verdict of a predicate. The byte begins as WEIGHPICK_READ, and a refusal leaves it so: of a summary that is none of this
  * table's and, where there is no predicate, of a sheet without bytes.
  */
@@ -46,46 +67,97 @@ static const char *pick(const struct predicate *inclusive, const struct predicat
     return verdict(strict, summary) == WEIGHPICK_WHOLE ? "whole" : "read";
 }
 
-/* Writes what is known of a file, for its line. */
-static void put_words(char *line, size_t size, const struct file *file)
+/* Writes what a summary says, for its line. */
+static void put_words(char *line, size_t size, const uint8_t *summary)
 {
-    const char *none_present = file->flag & WEIGHPICK_HAS_MISSING ? "missing" : "empty";
-    if (file->flag & WEIGHPICK_NONE_PRESENT) {
-        snprintf(line, size, "%s", none_present);
+    uint8_t flag = summary[WEIGHPICK_FLAG_AT];
+    if (flag & WEIGHPICK_NONE_PRESENT) {
+        snprintf(line, size, "%s", flag & WEIGHPICK_HAS_MISSING ? "missing" : "empty");
     } else {
-        snprintf(line, size, "%ld to %ld%s", (long)file->lowest, (long)file->highest,
-                 file->flag & WEIGHPICK_HAS_MISSING ? ", missing" : "");
+        snprintf(line, size, "%ld to %ld%s", (long)get_int(summary + WEIGHPICK_LOWEST_AT),
+                 (long)get_int(summary + WEIGHPICK_HIGHEST_AT), flag & WEIGHPICK_HAS_MISSING ? ", missing" : "");
     }
+}
+
+/* The file list, with the line of each file. */
+static const struct {
+    struct file file;
+    const char *expected;
+} FILES[] = {
+    {{0, 290, 0}, "0 to 290: whole"},
+    {{0, 290, WEIGHPICK_HAS_MISSING}, "0 to 290, missing: read"},
+    {{290, 300, 0}, "290 to 300: read"},
+    {{300, 450, 0}, "300 to 450: skip"},
+    {{310, 460, WEIGHPICK_HAS_MISSING}, "310 to 460, missing: skip"},
+    {{0, 0, WEIGHPICK_NONE_PRESENT + WEIGHPICK_HAS_MISSING}, "missing: skip"},
+    {{0, 0, WEIGHPICK_NONE_PRESENT}, "empty: skip"},
+    {{450, 300, 0}, "450 to 300: read"}, /* 11: no summary of a file is so */
+};
+
+/* Groups of files that lie side by side in the list, with the line of each group. */
+static const struct {
+    size_t first, count;
+    const char *expected;
+} GROUPS[] = {
+    {0, 3, "group 0 to 300, missing: read"},
+    {3, 4, "group 300 to 460, missing: skip"},
+    {5, 2, "group missing: skip"},
+    {6, 2, "group refused with 11: read"}, /* its files are looked at one by one */
+};
+
+/* Prints what is done with a file. */
+static int pick_file(size_t number, const struct predicate *inclusive, const struct predicate *strict)
+{
+    uint8_t summary[WEIGHPICK_SUMMARY];
+    char words[LINE_SIZE / 2], line[LINE_SIZE];
+    put_summary(summary, &FILES[number].file);
+    put_words(words, sizeof words, summary);
+    snprintf(line, sizeof line, "%s: %s", words, pick(inclusive, strict, summary));
+    return print_line(line, FILES[number].expected);
+}
+
+/* Pools the files of a group, and returns the first refusal. An empty file, with which it begins, adds nothing. */
+static uint32_t put_group(uint8_t *group, size_t first, size_t count)
+{
+    static const struct file empty = {0, 0, WEIGHPICK_NONE_PRESENT};
+    uint32_t answer = WEIGHPICK_RESULT;
+    put_summary(group, &empty);
+    for (size_t i = first; i < first + count && answer == WEIGHPICK_RESULT; i++) {
+        uint8_t summary[WEIGHPICK_SUMMARY];
+        put_summary(summary, &FILES[i].file);
+        answer = add_file(group, summary);
+    }
+    return answer;
+}
+
+/* Prints what is done with a group of files: if it is skipped, none of them need be looked at. */
+static int pick_group(size_t number, const struct predicate *inclusive, const struct predicate *strict)
+{
+    uint8_t group[WEIGHPICK_SUMMARY];
+    char words[LINE_SIZE / 2], line[LINE_SIZE];
+    uint32_t answer = put_group(group, GROUPS[number].first, GROUPS[number].count);
+    if (answer == WEIGHPICK_RESULT) {
+        put_words(words, sizeof words, group);
+        snprintf(line, sizeof line, "group %s: %s", words, pick(inclusive, strict, group));
+    } else {
+        snprintf(line, sizeof line, "group refused with %u: read", (unsigned)answer);
+    }
+    return print_line(line, GROUPS[number].expected);
 }
 
 int main(void)
 {
-    static const struct {
-        struct file file;
-        const char *expected;
-    } files[] = {
-        {{0, 290, 0}, "0 to 290: whole"},
-        {{0, 290, WEIGHPICK_HAS_MISSING}, "0 to 290, missing: read"},
-        {{290, 300, 0}, "290 to 300: read"},
-        {{300, 450, 0}, "300 to 450: skip"},
-        {{300, 450, WEIGHPICK_HAS_MISSING}, "300 to 450, missing: skip"},
-        {{0, 0, WEIGHPICK_NONE_PRESENT + WEIGHPICK_HAS_MISSING}, "missing: skip"},
-        {{0, 0, WEIGHPICK_NONE_PRESENT}, "empty: skip"},
-        {{450, 300, 0}, "450 to 300: read"}, /* 11: no summary of a file is so */
-    };
     uint8_t sheet[SAMPLE_SIZE];
     struct predicate inclusive, strict;
     int good = 1;
     put_sheet(sheet, 300);
     weighpick_project(sheet, sizeof sheet, inclusive.sheet, sizeof inclusive.sheet, &inclusive.count);
     weighpick_strict_project(sheet, sizeof sheet, strict.sheet, sizeof strict.sheet, &strict.count);
-    for (size_t i = 0; i < sizeof files / sizeof files[0]; i++) {
-        uint8_t summary[WEIGHPICK_SUMMARY];
-        char words[LINE_SIZE / 2], line[LINE_SIZE];
-        put_summary(summary, &files[i].file);
-        put_words(words, sizeof words, &files[i].file);
-        snprintf(line, sizeof line, "%s: %s", words, pick(&inclusive, &strict, summary));
-        good &= print_line(line, files[i].expected);
+    for (size_t i = 0; i < sizeof FILES / sizeof FILES[0]; i++) {
+        good &= pick_file(i, &inclusive, &strict);
+    }
+    for (size_t i = 0; i < sizeof GROUPS / sizeof GROUPS[0]; i++) {
+        good &= pick_group(i, &inclusive, &strict);
     }
     return good ? 0 : 1;
 }

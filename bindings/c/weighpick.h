@@ -9,17 +9,17 @@
  * value record a column, side by side.
  *
  * A summary says what a file list knows of a file: the records of its lowest and highest partition value, their type, and whether
- * a missing one occurs. docs/FORMAT.md says all of it, with examples.
+ * a missing one occurs. Two of them are pooled into one, which says it of both files. docs/FORMAT.md says all of it, with examples.
  *
  * The routines take bytes of every kind, keep no state and may run on several threads at once. Any lent memory must be readable
- * (`out` and `count`: writable) for its whole length; no pointer may be null, also with a length of 0; `out` and `count` may not
- * overlap with each other or with what is read.
+ * (`out`, `count` and the three numbers of pooling: writable) for its whole length; no pointer may be null, also with a length of
+ * 0; `out` and `count`, and the three numbers, may not overlap with each other or with what is read.
  */
 #ifndef WEIGHPICK_H
 #define WEIGHPICK_H
 
 /* The version; bindings/rust/Cargo.toml has the same, and CHANGELOG.md says what it has. */
-#define WEIGHPICK_VERSION "0.5.0"
+#define WEIGHPICK_VERSION "0.6.0"
 
 #include <stddef.h>
 #include <stdint.h>
@@ -30,7 +30,7 @@ extern "C" {
 
 /* What a routine returns. After every number but WEIGHPICK_RESULT nothing was written and the count is 0. */
 enum weighpick_answer {
-    WEIGHPICK_RESULT = 0,              /* result written; for the holds-test and for a filter: yes */
+    WEIGHPICK_RESULT = 0,              /* result written, or the three numbers set; for the holds-test and for a filter: yes */
     WEIGHPICK_NONE = 1,                /* no predicate; for the holds-test and for a filter: no */
     WEIGHPICK_BUFFER_TOO_SMALL = 2,    /* result buffer under WEIGHPICK_SHEET_BUFFER, _VALUE_BUFFER or _VERDICT_BUFFER */
     WEIGHPICK_MALFORMED = 3,           /* malformed sheet, value, summary or column list */
@@ -41,7 +41,8 @@ enum weighpick_answer {
     WEIGHPICK_OVERFLOW = 8,            /* a number leaves its type, where the crate iceberg panics or wraps */
     WEIGHPICK_OUTSIDE_GRAMMAR = 9,     /* no filter, a name that is not in the list, or a literal that does not fit its column */
     WEIGHPICK_TOO_LARGE = 10,          /* over WEIGHPICK_TEXT bytes, WEIGHPICK_LEAVES leaves or WEIGHPICK_BRACKETS open brackets */
-    WEIGHPICK_WRONG_SUMMARY = 11       /* a summary's lowest is above its highest, or its type is not the sheet's */
+    WEIGHPICK_WRONG_SUMMARY = 11,      /* a summary's lowest is above its highest, or its type is not the sheet's */
+    WEIGHPICK_DIFFERENT_TYPES = 12     /* the two summaries have different types */
 };
 
 /* The byte that the test of a summary writes: what is done with the file. */
@@ -49,6 +50,12 @@ enum weighpick_verdict {
     WEIGHPICK_SKIP = 0, /* no value that the file may hold meets the predicate */
     WEIGHPICK_READ = 1, /* some may */
     WEIGHPICK_WHOLE = 2 /* all of them do; never said of a String or Binary */
+};
+
+/* Whose end is the pooled summary's: what pooling sets for the lowest, and for the highest. */
+enum weighpick_whose {
+    WEIGHPICK_FIRST = 0, /* the first file's */
+    WEIGHPICK_SECOND = 1 /* the second's */
 };
 
 /* Sizes, in bytes unless they count something else. */
@@ -158,6 +165,20 @@ uint32_t weighpick_holds(const uint8_t *sheet, size_t sheet_len, const uint8_t *
  */
 uint32_t weighpick_test_summary(const uint8_t *sheet, size_t sheet_len, const uint8_t *summary, size_t summary_len, uint8_t *out,
                                 size_t out_len, uint64_t *count);
+
+/*
+ * The summary of two files together, of one type: `lowest` and `highest` say whose its ends are, the lower of the lowest and the
+ * higher of the highest, and `flag` is its flag. Equal ends are the first file's. A file without present values leaves both ends to
+ * the other; where neither has any, they are the first's.
+ *
+ * No byte is copied. The pooled summary is the record at WEIGHPICK_LOWEST_AT of the one, that at WEIGHPICK_HIGHEST_AT of the other,
+ * the type and the flag. It may hold what either file may hold, and a predicate that skips it skips each of the two. Pooling with
+ * an empty file gives the other's bytes, and the two give the same bytes in either order.
+ *
+ * After every number but WEIGHPICK_RESULT the three numbers are as they were.
+ */
+uint32_t weighpick_pool(const uint8_t *first, size_t first_len, const uint8_t *second, size_t second_len, uint64_t *lowest,
+                        uint64_t *highest, uint64_t *flag);
 
 /*
  * Filters. `columns` is a list of 1 to WEIGHPICK_COLUMNS entries, `text` the filter's bytes, without a zero behind them, and

@@ -1,9 +1,9 @@
 //! The entry points of the static library, and all of this crate's `unsafe`.
 //!
-//! The library reads the lent bytes, writes at most to the start of `out` and to `count`, keeps no pointer and has no state. It
-//! is proved to do so for bytes of every kind, so the safe functions below ask nothing of their callers. Proved as well is that
-//! number, count and the written bytes are the same whatever `out` held before the call: `out` may be memory that nothing was
-//! written to.
+//! The library reads the lent bytes, writes at most to the start of `out` and to `count`, or to the three numbers of pooling, keeps
+//! no pointer and has no state. It is proved to do so for bytes of every kind, so the safe functions below ask nothing of their
+//! callers. Proved as well is that number, count and the written bytes are the same whatever `out` held before the call: `out` may
+//! be memory that nothing was written to.
 
 #![allow(unsafe_code)]
 
@@ -51,6 +51,15 @@ extern "C" {
         out: *mut u8,
         out_len: usize,
         count: *mut u64,
+    ) -> u32;
+    fn weighpick_pool(
+        first: *const u8,
+        first_len: usize,
+        second: *const u8,
+        second_len: usize,
+        lowest: *mut u64,
+        highest: *mut u64,
+        flag: *mut u64,
     ) -> u32;
     fn weighpick_filter_row(
         columns: *const u8,
@@ -249,6 +258,38 @@ pub(crate) fn test_summary_into(sheet: &[u8], summary: &[u8], out: &mut [u8]) ->
     Answer {
         number,
         count: count as usize,
+    }
+}
+
+/// What pooling answers: document 01's number and, after 0, whose the lowest and the highest end are, and the flag.
+pub(crate) struct PoolAnswer {
+    pub(crate) number: u32,
+    pub(crate) lowest: u64,
+    pub(crate) highest: u64,
+    pub(crate) flag: u64,
+}
+
+/// The pooling of two summaries.
+#[inline]
+pub(crate) fn pool(first: &[u8], second: &[u8]) -> PoolAnswer {
+    let (mut lowest, mut highest, mut flag) = (0, 0, 0);
+    // SAFETY: both pointers come from live references and go with their slices' lengths; what is written are three variables.
+    let number = unsafe {
+        weighpick_pool(
+            first.as_ptr(),
+            first.len(),
+            second.as_ptr(),
+            second.len(),
+            &mut lowest,
+            &mut highest,
+            &mut flag,
+        )
+    };
+    PoolAnswer {
+        number,
+        lowest,
+        highest,
+        flag,
     }
 }
 

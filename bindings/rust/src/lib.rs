@@ -73,6 +73,9 @@
 //! }
 //! # Ok::<(), weighpick::Error>(())
 //! ```
+//!
+//! [`Summary::pool`] makes one summary of two: that of the file which the two are joined to, or of a group of files, all of which
+//! are passed over where it is skipped.
 
 #![deny(missing_docs)]
 #![deny(unsafe_code)]
@@ -91,6 +94,7 @@ mod literal;
 mod operators;
 mod parse_error;
 mod picker;
+mod pooled;
 mod predicate;
 mod record;
 mod refusal;

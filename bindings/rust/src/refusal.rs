@@ -1,4 +1,4 @@
-//! Why the library refuses: document 01's answers 2 to 8, 9 and 10, which filters add, and 11, which summaries add.
+//! Why the library refuses: document 01's answers 2 to 8, 9 and 10, which filters add, and 11 and 12, which summaries add.
 
 use std::error::Error;
 use std::fmt::{self, Display, Formatter};
@@ -41,11 +41,13 @@ pub enum Refusal {
     TooLarge = 10,
     /// A summary whose lowest is above its highest, or whose type is not the sheet's.
     WrongSummary = 11,
+    /// Two summaries that were to be pooled have different types.
+    DifferentTypes = 12,
 }
 
 impl Refusal {
     /// All refusals, by number.
-    pub const ALL: [Refusal; 10] = [
+    pub const ALL: [Refusal; 11] = [
         Refusal::BufferTooSmall,
         Refusal::Malformed,
         Refusal::NotUtf8,
@@ -56,6 +58,7 @@ impl Refusal {
         Refusal::OutsideGrammar,
         Refusal::TooLarge,
         Refusal::WrongSummary,
+        Refusal::DifferentTypes,
     ];
 
     /// Document 01's number.
@@ -86,6 +89,7 @@ impl Display for Refusal {
             Refusal::WrongSummary => {
                 "the summary's lowest is above its highest, or its type is not the sheet's"
             }
+            Refusal::DifferentTypes => "the two summaries have different types",
         })
     }
 }

@@ -1,8 +1,9 @@
 //! The routines over bytes, with the answer numbers as results.
 
-use crate::ffi::{self, Answer, Asked, Question, Setting};
+use crate::ffi::{self, Answer, Asked, PoolAnswer, Question, Setting};
+use crate::pooled::{End, Pooled, Whose};
 use crate::record::Record;
-use crate::summaries::VERDICT_BUFFER;
+use crate::summaries::{end_record, HIGHEST, LOWEST, VERDICT_BUFFER};
 use crate::{Refusal, Transform, Type, Verdict};
 
 /// Document 01's answer 0: there is a result, or the answer is yes.
@@ -178,6 +179,51 @@ pub fn test_summary_into<'a>(
 ) -> Result<&'a [u8], Refusal> {
     let answer = ffi::test_summary_into(sheet, summary, out);
     written(answer, out)
+}
+
+/// The summary of two files together, of one type: the lower of the lowest ends, the higher of the highest, missing if either has
+/// it. Its ends are parts of the two summaries.
+///
+/// Equal ends are the first file's. A file without present values leaves both ends to the other; where neither has any, they are
+/// the first's. A summary whose lowest is above its highest is [`Refusal::WrongSummary`], and then two of different types are
+/// [`Refusal::DifferentTypes`].
+///
+/// ```
+/// use weighpick::sheet::RECORD;
+/// use weighpick::summary::{pool, Whose};
+/// use weighpick::{Literal, Summary};
+///
+/// let first = Summary::between(&Literal::Int(290), &Literal::Int(310))?;
+/// let second = Summary::between(&Literal::Int(0), &Literal::Int(310))?.with_missing(true);
+/// let pooled = pool(first.as_bytes(), second.as_bytes())?;
+/// assert_eq!((pooled.lowest.whose, pooled.highest.whose), (Whose::Second, Whose::First));
+/// assert_eq!(pooled.lowest.record, &second.as_bytes()[..RECORD]);
+/// assert_eq!(pooled.flag, 1);
+/// # Ok::<(), weighpick::Error>(())
+/// ```
+#[inline]
+pub fn pool<'a>(first: &'a [u8], second: &'a [u8]) -> Result<Pooled<'a>, Refusal> {
+    let answer = ffi::pool(first, second);
+    match answer.number {
+        RESULT => Ok(pooled([first, second], &answer).expect("the library pools two summaries")),
+        number => Err(refusal(number)),
+    }
+}
+
+/// What pooling said, with the ends in the summaries that they are parts of.
+#[inline]
+fn pooled<'a>(summaries: [&'a [u8]; 2], answer: &PoolAnswer) -> Option<Pooled<'a>> {
+    let end = |number, place| {
+        let whose = Whose::from_number(number)?;
+        let record = end_record(summaries[whose as usize], place)?;
+        Some(End { whose, record })
+    };
+    Some(Pooled {
+        lowest: end(answer.lowest, LOWEST)?,
+        highest: end(answer.highest, HIGHEST)?,
+        // At most 3.
+        flag: answer.flag as u8,
+    })
 }
 
 /// Whether a row meets a filter. `values` are the records of one value a column, in the order of the list; each has its column's

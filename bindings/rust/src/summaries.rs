@@ -5,7 +5,7 @@ use std::str::FromStr;
 
 use crate::contents::{take_literal, Content};
 use crate::record::{content, head_record, put_missing, Record, RECORD};
-use crate::routines::test_summary;
+use crate::routines::{pool, test_summary};
 use crate::text::{take_word, MISSING};
 use crate::{Error, Literal, ParseError, PredicateOperator, Refusal, Transform, Type, ValueError};
 
@@ -14,6 +14,10 @@ pub const SUMMARY: usize = FLAG_AT + 1;
 
 /// The bytes that the result buffer for a verdict has at least.
 pub const VERDICT_BUFFER: usize = 1;
+
+/// The places of both ends among a summary's records.
+pub(crate) const LOWEST: usize = 0;
+pub(crate) const HIGHEST: usize = 1;
 
 /// Where the type stands, behind the records of both ends.
 const TYPE_AT: usize = 2 * RECORD;
@@ -56,16 +60,16 @@ impl Summary {
     pub fn between(lowest: &Literal, highest: &Literal) -> Result<Summary, ValueError> {
         let column_type = lowest.column_type();
         let mut summary = Summary::new(column_type, 0);
-        lowest.put(column_type, summary.record_mut(0))?;
-        highest.put(column_type, summary.record_mut(1))?;
+        lowest.put(column_type, summary.record_mut(LOWEST))?;
+        highest.put(column_type, summary.record_mut(HIGHEST))?;
         Ok(summary)
     }
 
     /// The summary of an empty file: no value is present, and none is missing.
     pub fn empty(column_type: Type) -> Summary {
         let mut summary = Summary::new(column_type, NONE_PRESENT);
-        put_missing(summary.record_mut(0));
-        put_missing(summary.record_mut(1));
+        put_missing(summary.record_mut(LOWEST));
+        put_missing(summary.record_mut(HIGHEST));
         summary
     }
 
@@ -75,6 +79,62 @@ impl Summary {
         let none_present = self.bytes[FLAG_AT] & NONE_PRESENT;
         self.bytes[FLAG_AT] = none_present | if occurs { HAS_MISSING } else { 0 };
         self
+    }
+
+    /// The summary of this file and another together: the lower of the lowest ends, the higher of the highest, missing if either has
+    /// it. A file without present values adds only its missing mark, and an empty one nothing.
+    ///
+    /// It may hold what either file may hold, and a predicate that skips it skips each of the two. A summary whose lowest is above
+    /// its highest is [`Refusal::WrongSummary`], and two of different types are [`Refusal::DifferentTypes`].
+    ///
+    /// ```
+    /// use weighpick::{Error, Refusal, Summary};
+    ///
+    /// let pooled = |first: &str, second: &str| -> Result<String, Error> {
+    ///     Ok(first.parse::<Summary>()?.pool(&second.parse()?)?.to_string())
+    /// };
+    /// assert_eq!(pooled("int 290 to 310", "int 0 to 20, missing")?, "int 0 to 310, missing");
+    /// assert_eq!(pooled("int missing", "int 0 to 20")?, "int 0 to 20, missing");
+    /// assert_eq!(pooled("int empty", "int 0 to 20")?, "int 0 to 20");
+    /// assert_eq!(pooled("int 0 to 20", "date 0 to 20"), Err(Refusal::DifferentTypes.into()));
+    /// # Ok::<(), Error>(())
+    /// ```
+    #[inline]
+    pub fn pool(&self, other: &Summary) -> Result<Summary, Refusal> {
+        let pooled = pool(&self.bytes, &other.bytes)?;
+        let mut bytes = [0; SUMMARY];
+        bytes[..RECORD].copy_from_slice(pooled.lowest.record);
+        bytes[RECORD..TYPE_AT].copy_from_slice(pooled.highest.record);
+        bytes[TYPE_AT] = self.bytes[TYPE_AT];
+        bytes[FLAG_AT] = pooled.flag;
+        Ok(Summary { bytes })
+    }
+
+    /// The summary of some files together, pooled one after the other; none where there is no file. The first refusal is handed on;
+    /// one file alone may be refused too.
+    ///
+    /// ```
+    /// use weighpick::{Leaf, Pick, Summary};
+    ///
+    /// let picker = "int truncate[10] < 295".parse::<Leaf>()?.picker();
+    /// let files = ["int 300 to 310", "int empty", "int 450 to 500, missing"].map(str::parse::<Summary>);
+    /// let files = files.into_iter().collect::<Result<Vec<_>, _>>()?;
+    /// let pooled = Summary::pool_all(&files)?.expect("there are files");
+    /// assert_eq!(pooled.to_string(), "int 300 to 500, missing");
+    /// assert_eq!(picker.pick_summary(&pooled)?, Pick::Skip); // no row of the three files meets the leaf
+    /// # Ok::<(), weighpick::Error>(())
+    /// ```
+    pub fn pool_all<'a>(
+        files: impl IntoIterator<Item = &'a Summary>,
+    ) -> Result<Option<Summary>, Refusal> {
+        let mut files = files.into_iter().peekable();
+        let Some(first) = files.peek() else {
+            return Ok(None);
+        };
+        // An empty file adds nothing, so that the first is looked at like the others.
+        let empty = Summary::empty(first.column_type());
+        let pooled = files.try_fold(empty, |pooled, file| pooled.pool(file));
+        pooled.map(Some)
     }
 
     /// A summary with records of zeros.
@@ -120,14 +180,12 @@ impl Summary {
 
     /// The lowest and the highest of the present values, if there are any.
     pub fn ends(&self) -> Option<(Literal, Literal)> {
-        Some((self.end(0)?, self.end(1)?))
+        Some((self.end(LOWEST)?, self.end(HIGHEST)?))
     }
 
     /// The value in the record of an end; none where the record is marked missing.
     fn end(&self, place: usize) -> Option<Literal> {
-        let content = self.bytes[RECORD * place..]
-            .first_chunk()
-            .and_then(content)?;
+        let content = end_record(&self.bytes, place).and_then(content)?;
         let literal = Literal::from_content(self.column_type(), content);
         Some(literal.expect("every end of a summary has its type"))
     }
@@ -136,6 +194,12 @@ impl Summary {
     pub fn has_missing(&self) -> bool {
         self.bytes[FLAG_AT] & HAS_MISSING != 0
     }
+}
+
+/// The record of an end, if there are so many bytes.
+#[inline]
+pub(crate) fn end_record(summary: &[u8], place: usize) -> Option<&Record> {
+    summary.get(RECORD * place..)?.first_chunk()
 }
 
 /// The sheet of a leaf of a type, without literals.

@@ -1,7 +1,9 @@
-//! Summaries, the bytes by which files are known, and the routine over them.
+//! Summaries, the bytes by which files are known, and the two routines over them.
 //!
-//! For callers that get the bytes from elsewhere; [`Predicate::test_summary`](crate::Predicate::test_summary) asks the same with
-//! typed ends. `docs/FORMAT.md` in the repository says what each byte of a summary is.
+//! For callers that get the bytes from elsewhere; [`Predicate::test_summary`](crate::Predicate::test_summary) and
+//! [`Summary::pool`](crate::Summary::pool) ask the same with typed ends. `docs/FORMAT.md` in the repository says what each byte of
+//! a summary is.
 
-pub use crate::routines::{test_summary, test_summary_into};
+pub use crate::pooled::{End, Pooled, Whose};
+pub use crate::routines::{pool, test_summary, test_summary_into};
 pub use crate::summaries::{SUMMARY, VERDICT_BUFFER};

@@ -6,7 +6,7 @@ use support::sample::Random;
 use weighpick::sheet::{CONTENT, LITERALS};
 use weighpick::{
     ColumnError, Columns, Error, Leaf, LeafError, Literal, ParseError, Predicate,
-    PredicateOperator, Refusal, Row, RowError, Transform, Type, Value, ValueError,
+    PredicateOperator, Refusal, Row, RowError, Summary, Transform, Type, Value, ValueError,
 };
 
 /// How many leaves are tried.
@@ -75,6 +75,11 @@ fn one_error_takes_them_all() {
         Ok(Leaf::unary(operator, Type::Time, Transform::Year)?.project()?)
     };
     assert_eq!(refused(), Err(Error::Refused(Refusal::NoResultType)));
+    let pooled = || -> Result<Summary, Error> {
+        let file = Summary::between(&Literal::Int(1), &Literal::Int(2))?;
+        Ok(file.pool(&Summary::empty(Type::Date))?)
+    };
+    assert_eq!(pooled(), Err(Error::Refused(Refusal::DifferentTypes)));
     let value = || -> Result<bool, Error> { Ok(below_300()?.1.holds(&"a".into())?) };
     let wrong = ValueError::WrongType(Type::Int, Type::String);
     assert_eq!(value(), Err(Error::Value(wrong)));
@@ -118,6 +123,10 @@ fn the_words_are_those_of_the_error_inside() {
     for (error, words) in errors {
         assert_eq!(error.to_string(), words);
     }
+    assert_eq!(
+        Refusal::DifferentTypes.to_string(),
+        "the two summaries have different types"
+    );
     let mistyped = ValueError::WrongType(Type::Int, Type::Date);
     assert_eq!(
         mistyped.to_string(),

@@ -4,7 +4,7 @@ use weighpick::filter::{BRACKETS, COLUMN, COLUMNS, LEAVES, NAME, TEXT};
 use weighpick::sheet::{
     ANSWER_LITERALS, CONTENT, LARGEST_SHEET, LITERALS, RECORD, SHEET_BUFFER, VALUE_BUFFER,
 };
-use weighpick::summary::{SUMMARY, VERDICT_BUFFER};
+use weighpick::summary::{Whose, SUMMARY, VERDICT_BUFFER};
 use weighpick::{Literal, PredicateOperator, Refusal, Summary, Transform, Type, Value, Verdict};
 
 const HEADER: &str = include_str!("../../c/weighpick.h");
@@ -101,6 +101,10 @@ fn numbers() {
     for verdict in Verdict::ALL {
         let number = in_header(&c_name(verdict));
         assert_eq!(number, Some(verdict.number().into()), "{verdict:?}");
+    }
+    for whose in Whose::ALL {
+        let number = in_header(&c_name(whose));
+        assert_eq!(number, Some(whose.number() as usize), "{whose:?}");
     }
     assert_eq!(in_header("RESULT"), Some(0));
     assert_eq!(in_header("NONE"), Some(1));

@@ -1,5 +1,5 @@
-//! Filters are asked, and files picked by summaries, without memory from the heap; rows, partition values and summaries of numbers are
-//! built without.
+//! Filters are asked, files picked by summaries and summaries pooled without memory from the heap; rows, partition values and
+//! summaries of numbers are built without.
 
 use std::alloc::{GlobalAlloc, Layout, System};
 use std::cell::Cell;
@@ -88,6 +88,22 @@ fn files_are_picked_without() -> Result<(), Error> {
         });
         assert_eq!(counted, 0, "{lowest} to {highest}: {picked:?}");
         assert_eq!(picked?, expected, "{lowest} to {highest}");
+    }
+    Ok(())
+}
+
+#[test]
+fn files_are_pooled_without() -> Result<(), Error> {
+    let file = |lowest, highest| Summary::between(&Literal::Int(lowest), &Literal::Int(highest));
+    let files = [file(0, 20)?, Summary::empty(Type::Int), file(10, 300)?];
+    let (counted, pooled) = asked(|| Summary::pool_all(&files));
+    assert_eq!((counted, pooled?), (0, Some(file(0, 300)?)));
+    for (other, expected) in [
+        (file(2, 1)?, Refusal::WrongSummary),
+        (Summary::empty(Type::Date), Refusal::DifferentTypes),
+    ] {
+        let (counted, refused) = asked(|| files[0].pool(&other));
+        assert_eq!((counted, refused), (0, Err(expected)));
     }
     Ok(())
 }

@@ -1,4 +1,5 @@
-//! Files picked by summaries of their partition values: no row is lost, and a file that is taken whole has no other rows.
+//! Files picked by summaries of their partition values, one by one and in groups: no row is lost, and a file that is taken whole has
+//! no other rows.
 
 mod support;
 
@@ -85,10 +86,15 @@ fn a_summary_that_is_none_of_the_table_s() {
 /// Rows of a file with their partition values.
 type Rows = Vec<(Value, Value)>;
 
+/// The summary of a file's partition values.
+fn summary_of(partition_type: Type, rows: &Rows) -> Summary {
+    let values: Vec<Value> = rows.iter().map(|(_, value)| value.clone()).collect();
+    file_of(partition_type, &values)
+}
+
 /// Picks a file by the summary of its partition values, and holds the pick against its rows, and against the picks by each value.
 fn check(leaf: &Leaf, partition_type: Type, rows: &Rows) -> Pick {
-    let values: Vec<Value> = rows.iter().map(|(_, value)| value.clone()).collect();
-    let file = file_of(partition_type, &values);
+    let file = summary_of(partition_type, rows);
     let picker = leaf.picker();
     let picked = picker
         .pick_summary(&file)
@@ -101,6 +107,23 @@ fn check(leaf: &Leaf, partition_type: Type, rows: &Rows) -> Pick {
             Pick::Filter => continue,
         }
         assert_eq!(by_value, picked, "{leaf} at {value} of {file}");
+    }
+    picked
+}
+
+/// Holds the pick of a group of files against what its rows meet, and a skip against the picks of its files.
+fn check_group(leaf: &Leaf, partition_type: Type, files: &[Rows]) -> Pick {
+    let summaries = files.iter().map(|rows| summary_of(partition_type, rows));
+    let summaries: Vec<Summary> = summaries.collect();
+    let pooled = Summary::pool_all(&summaries).expect("summaries of one type");
+    let picked = leaf.picker().pick_summary(&pooled.expect("some files"));
+    let picked = picked.expect("a summary of the partition's type");
+    for rows in files {
+        match picked {
+            Pick::Skip => assert_eq!(check(leaf, partition_type, rows), Pick::Skip),
+            Pick::Whole => assert!(rows.iter().all(|(row, _)| meets(leaf, row)), "{leaf}"),
+            Pick::Filter => {}
+        }
     }
     picked
 }
@@ -135,6 +158,31 @@ fn no_row_is_lost_from_a_seed() {
         }
     }
     assert!(picks.iter().all(|&picks| picks > 1000), "{picks:?}");
+}
+
+/// Groups of files by their pooled summary: one that is skipped holds no row that meets the leaf, and each of its files is skipped
+/// by itself too. A group that is taken whole has no other rows.
+#[test]
+fn no_row_is_lost_in_groups() {
+    let mut random = Random::new(18);
+    let mut picks = [0; 3];
+    for _ in 0..LEAVES {
+        let leaf = random.leaf();
+        let (column_type, transform) = (leaf.column_type(), leaf.transform());
+        let Ok(partition_type) = transform.result_type(column_type) else {
+            continue;
+        };
+        let rows = filed(column_type, transform, random.rows(&leaf));
+        // Each row lies in one of three files, or in none.
+        let mut files = [const { Rows::new() }; 3];
+        for row in rows {
+            if let Some(file) = files.get_mut(random.below(2 * 3)) {
+                file.push(row);
+            }
+        }
+        picks[check_group(&leaf, partition_type, &files) as usize] += 1;
+    }
+    assert!(picks.iter().all(|&picks| picks > 200), "{picks:?}");
 }
 
 #[test]

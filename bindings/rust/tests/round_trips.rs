@@ -5,6 +5,7 @@ mod support;
 use support::sample::Random;
 use support::{both, TRANSFORMS};
 use weighpick::sheet::{project_into, Sheet, RECORD, SHEET_BUFFER};
+use weighpick::summary::Whose;
 use weighpick::{Leaf, Literal, Predicate, PredicateOperator, Refusal, Transform, Type, Value};
 
 /// How many leaves are tried.
@@ -18,7 +19,9 @@ fn numbers() {
     assert!(operators.eq(PredicateOperator::ALL));
     let refusals = (0..=u32::from(u16::MAX)).filter_map(Refusal::from_number);
     assert!(refusals.eq(Refusal::ALL));
-    assert!((2..=11).eq(Refusal::ALL.map(Refusal::number)));
+    assert!((2..=12).eq(Refusal::ALL.map(Refusal::number)));
+    let files = (0..=u64::from(u16::MAX)).filter_map(Whose::from_number);
+    assert!(files.eq(Whose::ALL));
     for transform in TRANSFORMS {
         let again = Transform::from_numbers(transform.number(), transform.width());
         assert_eq!(again, Some(transform));

@@ -5,7 +5,7 @@ mod support;
 use support::files::{all_ends, file, subsets};
 use support::meets::{compare, meets};
 use support::sample::Random;
-use support::{leaves_of, number, number_of};
+use support::{leaves_of, number, number_of, windows};
 use weighpick::sheet::{Sheet, ANSWER_LITERALS};
 use weighpick::summary::test_summary;
 use weighpick::{Leaf, Literal, PredicateOperator, Summary, Transform, Type, Value, Verdict};
@@ -23,7 +23,7 @@ const NUMBERS: [Type; 8] = [
 ];
 
 /// How many values a small window has.
-const WINDOW: usize = 6;
+const WINDOW: i64 = 6;
 
 /// How many leaves are tried with ends that are far apart.
 const LEAVES: usize = 20_000;
@@ -39,24 +39,10 @@ fn verdict(leaf: &Leaf, values: &[Value]) -> Verdict {
     }
 }
 
-/// Small windows of a type: at 0 and at both of its ends.
-fn windows(column_type: Type) -> Vec<Vec<Literal>> {
-    let bytes = match column_type {
-        Type::Int | Type::Date => 4,
-        _ => 8,
-    };
-    let (lowest, highest) = (i64::MIN >> (64 - 8 * bytes), i64::MAX >> (64 - 8 * bytes));
-    let starts = [lowest, -2, highest - (WINDOW as i64 - 1)];
-    let window = |start| {
-        (0..WINDOW as i64).map(move |n| number(column_type, start + n).expect("in the type"))
-    };
-    starts.map(|start| window(start).collect()).into()
-}
-
 #[test]
 fn every_operator_in_small_windows() {
     let mut verdicts = [0; 3];
-    for window in NUMBERS.into_iter().flat_map(windows) {
+    for window in NUMBERS.into_iter().flat_map(|t| windows(t, WINDOW)) {
         let column_type = window[0].column_type();
         let leaves = leaves_of(column_type, Transform::Identity, &window, &subsets(&window));
         for (ends, missing) in all_ends(&window) {

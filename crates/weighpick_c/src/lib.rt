@@ -1,4 +1,5 @@
-// The routines under C's names, for programs in other languages: document 01's number is returned, and the count of bytes written is set in every case.
+// The routines under C's names, for programs in other languages: document 01's number is returned, and the count of bytes written, where there is one, is set in
+// every case.
 use answers::answer::Answer;
 use api::holds::holds;
 use api::literal::transform_literal;
@@ -8,6 +9,8 @@ use files::files::test_summary;
 use filter::filter::filter_project;
 use filter::filter::filter_row;
 use filter::filter::filter_strict_project;
+use pool::pool::PoolResult;
+use pool::pool::pool;
 ghost use mathlib.Core.Path.{_≡_};
 ghost use Rattle.projection.specs.declared.question.Question.the-variants.{Inclusive, Strict};
 ghost use Rattle.answers.specs.Answers.{answerNumber, answerCount};
@@ -16,6 +19,8 @@ ghost use Rattle.api.specs.HoldsTest.{holdsTest};
 ghost use Rattle.api.specs.Routines.{projectAnswer, projectLeaves, transformAnswer, transformLeaves};
 ghost use Rattle.files.specs.TestSummary.{testAnswer, testLeaves};
 ghost use Rattle.filter.specs.FilterRoutines.{filterRow, filterParts};
+ghost use Rattle.pool.specs.Handed.{poolNumber, toldLowest, toldHighest, toldFlag};
+ghost use Rattle.pool.specs.Pooling as pooling;
 
 // Sets the count of an answer, and gives its number.
 fn told(answer: Answer, count: &mut u64) -> u32
@@ -82,6 +87,33 @@ pub extern "C" fn weighpick_test_summary(
     ensures buffer { λ _. ⌜ now (out .exit) ≡ testLeaves (now (sheet .entry)) (now (summary .entry)) (now (out .entry)) ⌝ }
 {
     told(test_summary(sheet, summary, out), count)
+}
+
+// Sets the three numbers after 0 alone: 0 the first file's end, 1 the second's; and the flag.
+#[no_mangle]
+pub extern "C" fn weighpick_pool(
+    first: &[u8],
+    second: &[u8],
+    lowest: &mut u64,
+    highest: &mut u64,
+    flag: &mut u64,
+) -> u32
+    ensures number { λ r. ⌜ r ≡ poolNumber (pooling.pool (now (first .entry)) (now (second .entry))) ⌝ }
+    ensures lowest { λ _. ⌜ now (lowest .exit) ≡ toldLowest (pooling.pool (now (first .entry)) (now (second .entry))) (now (lowest .entry)) ⌝ }
+    ensures highest { λ _. ⌜ now (highest .exit) ≡ toldHighest (pooling.pool (now (first .entry)) (now (second .entry))) (now (highest .entry)) ⌝ }
+    ensures flag { λ _. ⌜ now (flag .exit) ≡ toldFlag (pooling.pool (now (first .entry)) (now (second .entry))) (now (flag .entry)) ⌝ }
+{
+    match pool(first, second) {
+        PoolResult::Ok(pooled) => {
+            let low = pooled.lowest;
+            let high = pooled.highest;
+            *lowest = low.number();
+            *highest = high.number();
+            *flag = pooled.flag as u64;
+            0
+        }
+        PoolResult::Err(e) => e.number(),
+    }
 }
 
 #[no_mangle]

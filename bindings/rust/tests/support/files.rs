@@ -7,7 +7,10 @@ use weighpick::summary::test_summary_into;
 use weighpick::{Leaf, Literal, Refusal, Summary, Type, Value, Verdict};
 
 use super::meets::compare;
-use super::BEFORE;
+use super::{windows, BEFORE};
+
+/// How many values a small world has.
+const WORLD: i64 = 5;
 
 /// Where type and flag of a summary stand, behind two records.
 pub const TYPE_AT: usize = 2 * RECORD;
@@ -55,6 +58,27 @@ pub fn all_ends(ascending: &[Literal]) -> Vec<(Option<(&Literal, &Literal)>, boo
         .into_iter()
         .flat_map(|ends| [(ends, false), (ends, true)]);
     flagged.collect()
+}
+
+/// Small worlds of a type, ascending: numbers at 0 and at both ends of the type, strings and binaries that begin one another or not.
+pub fn worlds(column_type: Type) -> Vec<Vec<Literal>> {
+    match column_type {
+        Type::String => vec![["", "a", "ab", "b", "é"].map(Literal::from).into()],
+        Type::Binary => {
+            let binaries = [&[][..], &[0], &[0, 0xff], &[0x7f], &[0x80]];
+            vec![binaries.map(Literal::binary).into()]
+        }
+        _ => windows(column_type, WORLD),
+    }
+}
+
+/// Every file with ends in a small world, or without, and whether a missing value occurs.
+pub fn files_in(world: &[Literal]) -> Vec<Summary> {
+    let files = all_ends(world).into_iter();
+    let column_type = world[0].column_type();
+    files
+        .map(|(ends, missing)| file(column_type, ends, missing))
+        .collect()
 }
 
 /// Every subset of some literals.

@@ -59,6 +59,19 @@ pub fn number_of(literal: &Literal) -> Option<i64> {
     }
 }
 
+/// Small windows of a number type, ascending: at 0 and at both of its ends.
+pub fn windows(column_type: Type, size: i64) -> Vec<Vec<Literal>> {
+    let bytes = match column_type {
+        Type::Int | Type::Date => 4,
+        _ => 8,
+    };
+    let (lowest, highest) = (i64::MIN >> (64 - 8 * bytes), i64::MAX >> (64 - 8 * bytes));
+    let starts = [lowest, -2, highest - (size - 1)];
+    let window =
+        |start| (0..size).map(move |n| number(column_type, start + n).expect("in the type"));
+    starts.map(|start| window(start).collect()).into()
+}
+
 /// A projection's answer as operator and literals.
 pub fn said(
     answer: Result<Option<Predicate>, Refusal>,

@@ -123,6 +123,16 @@ impl Random {
         rows
     }
 
+    /// The values of a small file, missing ones among them.
+    pub fn file(&mut self, column_type: Type) -> Vec<Value> {
+        let n = self.below(4);
+        let mut value = |_| match self.below(4) {
+            0 => Value::Missing,
+            _ => self.literal(column_type).into(),
+        };
+        (0..n).map(&mut value).collect()
+    }
+
     /// A literal close to another: a few off, or with another end.
     fn close_to(&mut self, literal: &Literal) -> Literal {
         let near = self.below(25) as i64 - 12;
