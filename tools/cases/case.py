@@ -5,7 +5,7 @@ import model
 from model import SHEET_ROOM, VALUE_ROOM, VERDICT_ROOM
 
 HOLDS, PROJECT, STRICT_PROJECT, TRANSFORM, TEXT, PROGRAM = range(6)
-FILTER_ROW, FILTER_PROJECT, FILTER_STRICT_PROJECT, TEST_SUMMARY = range(6, 10)
+FILTER_ROW, FILTER_PROJECT, FILTER_STRICT_PROJECT, TEST_SUMMARY, POOL = range(6, 11)
 Case = collections.namedtuple("Case", "group routine number column transform width inputs result lent")
 
 
@@ -60,3 +60,9 @@ class Cases:
         number, result = model.test_summary(sheet, summary, lent)
         assert told in (None, (number, *result)), (group, sheet, summary, told)
         self.all.append(Case(group, TEST_SUMMARY, number, 0, 0, 0, [sheet, summary], result, lent))
+
+    def pool(self, group, first, second, told=None):
+        """`told` is the number, after 0 with whose lowest end, whose highest and the flag."""
+        number, result = model.pool(first, second)
+        assert told in (None, (number, *result[:3])), (group, first, second, told)
+        self.all.append(Case(group, POOL, number, 0, 0, 0, [first, second], result, 0))

@@ -45,6 +45,10 @@ GROUPS = {
     37: "summaries: refusals in order",
     38: "summaries: one byte damaged",
     39: "summaries: at random",
+    40: "pooled summaries: ends and flags",
+    41: "pooled summaries: refusals in order",
+    42: "pooled summaries: one byte damaged",
+    43: "pooled summaries: at random",
 }
 HEADER, INPUTS = struct.Struct("<BBBBBxIHHHHH"), 3
 

@@ -27,6 +27,14 @@ def random_literals(rng, operator, values):
     return [rng.choice(values) for _ in range(count)]
 
 
+def near_values(rng, column):
+    """A few that are near each other."""
+    if not is_number(column):
+        return [b"", b"a", b"ab", b"abc", b"ac", b"b", "é".encode()]
+    at = rng.choice(edges(column))
+    return [z for z in range(at - 3, at + 4) if z in range_of(column)]
+
+
 def random_ends(rng, column, values):
     """Around these, so that each of them lies between; none where there is no value."""
     if not values:
@@ -43,11 +51,7 @@ def random_leaf(group):
     """Literals and ends near each other; now and then the ends are out of order."""
     rng = group.rng
     column, operator = rng.choice(TYPES), rng.choice(OPERATORS)
-    if is_number(column):
-        at = rng.choice(edges(column))
-        values = [z for z in range(at - 3, at + 4) if z in range_of(column)]
-    else:
-        values = [b"", b"a", b"ab", b"abc", b"ac", b"b", "é".encode()]
+    values = near_values(rng, column)
     ends = random_ends(rng, column, [rng.choice(values)] * (rng.random() < 0.9))
     group.either(operator, column, random_literals(rng, operator, values), ends[::-1] if rng.random() < 0.05 else ends)
 

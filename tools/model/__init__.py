@@ -3,11 +3,12 @@ the crates.
 
 `holds`, `project` and `transform` are the routines: bytes in, document 01's number and the result's bytes out (none after any
 number but 0). `filter_row` and `filter_project` are those of filters, which write nothing. `test_summary` is that of files known
-by their ends. `printed` is program `weighpick`, from the bytes that it reads to those that it prints. Within, a number is an int
-and a String or Binary is bytes; a refusal is raised as `Refused` with its number.
+by their ends, and `pool` gives one summary for two of them. `printed` is program `weighpick`, from the bytes that it reads to
+those that it prints. Within, a number is an int and a String or Binary is bytes; a refusal is raised as `Refused` with its
+number.
 
 The parts, the lowest first: codes, sheets, transforms, projections, routines, program; of filters: columns, texts, filters; of
-files known by their ends: summaries, verdicts, checks."""
+files known by their ends: summaries, verdicts, pooling, checks."""
 from .codes import (
     RECORD, CONTENT, MISSING, BEFORE_WIDTH, AFTER_WIDTH, LITERALS, ANSWER_LITERALS, LARGEST_SHEET, SHEET_ROOM,
     VALUE_ROOM, NAME, COLUMNS, ENTRY, TEXT_BYTES, LEAVES, BRACKETS, TYPE_AT, FLAG_AT, SUMMARY, VERDICT_ROOM, INT, LONG,
@@ -16,9 +17,10 @@ from .codes import (
     IN, NOT_IN, SETS, OPERATORS, SKIP, READ, WHOLE, MICROS, NANOS, Refused, is_number, range_of, read_literal,
     literal_bytes,
 )
-from .checks import check_numbers, check_texts
+from .checks import check_numbers, check_pools, check_texts
 from .columns import WORDS, part_type, entry, values_of
 from .filters import filter_row, filter_project
+from .pooling import pool, pooled_summary
 from .program import printed
 from .routines import holds, project, transform
 from .sheets import read_value, record, value_record, sheet_of, answer_sheet

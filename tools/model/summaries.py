@@ -1,7 +1,8 @@
-"""Summaries of files: the ends of the present values, and whether a missing one occurs; read with the refusal 3, and written."""
+"""Summaries of files: the ends of the present values, and whether a missing one occurs; read with the refusals 3 and 11, and
+written."""
 import collections
 
-from .codes import RECORD, TYPE_AT, FLAG_AT, SUMMARY, TYPES, HAS_MISSING, NONE_PRESENT, need
+from .codes import RECORD, TYPE_AT, FLAG_AT, SUMMARY, TYPES, HAS_MISSING, NONE_PRESENT, need, read_literal
 from .sheets import read_value, value_record
 
 File = collections.namedtuple("File", "type ends missing")  # the ends' bytes, lowest first; () where no value is present
@@ -16,6 +17,13 @@ def read_summary(bs):
     marked = lowest is None, highest is None
     need(marked == (True, True) if flag & NONE_PRESENT else marked == (False, False), 3)
     return File(column, () if flag & NONE_PRESENT else (lowest, highest), bool(flag & HAS_MISSING))
+
+
+def ordered_ends(file):
+    """Their values; 11 where the lowest is above the highest."""
+    ends = [read_literal(file.type, bs) for bs in file.ends]
+    need(ends == sorted(ends), 11)
+    return ends
 
 
 # ---- writing

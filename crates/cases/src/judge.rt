@@ -9,6 +9,11 @@ use filter::filter::filter_project;
 use filter::filter::filter_row;
 use filter::filter::filter_strict_project;
 use meets::held::Held;
+use pool::pool::PoolResult;
+use pool::pool::Pooled;
+use pool::pool::highest_end;
+use pool::pool::lowest_end;
+use pool::pool::pool;
 use text::program::OUTPUT_SIZE;
 use text::program::print_sheet;
 use values::order::starts_with;
@@ -30,6 +35,11 @@ const FILTER_INCLUSIVE: u8 = 7;
 const FILTER_STRICT: u8 = 8;
 
 const TEST_SUMMARY: u8 = 9;
+
+const POOL: u8 = 10;
+
+// The result of pooling: whose the ends are and the flag, a byte each, and then the ends.
+const ENDS_AT: usize = 3;
 
 // What a lent buffer holds before the call: a byte that steps from place to place, so that bytes that were moved show too.
 const FIRST_FILLER: u8 = 165;
@@ -184,12 +194,76 @@ fn is_printed(sheet: &[u8], lines: &[u8]) -> bool {
     is_filled_from(lines.len(), &out)
 }
 
+fn wide(byte: u8) -> u64 {
+    byte as u64
+}
+
+// Whether a result starts with whose the ends are, and the flag.
+fn is_told(pooled: Pooled, result: &[u8]) -> bool {
+    if result.len() < ENDS_AT {
+        return false;
+    }
+    let lowest = pooled.lowest;
+    let highest = pooled.highest;
+    if lowest.number() != wide(result[0]) {
+        return false;
+    }
+    if highest.number() != wide(result[1]) {
+        return false;
+    }
+    pooled.flag == result[2]
+}
+
+// Whether the two ends, one after the other, are these bytes.
+fn are_ends(lowest: &[u8], highest: &[u8], ends: &[u8]) -> bool {
+    if !starts_with(ends, lowest) {
+        return false;
+    }
+    let n = lowest.len();
+    if ends.len() < n {
+        return false;
+    }
+    if ends.len() - n != highest.len() {
+        return false;
+    }
+    starts_with(&ends[n..], highest)
+}
+
+// Whether pooling gives the number expected, after 0 with the result, and hands back the ends; after a refusal result and ends are empty.
+fn is_pooled<'a>(expected: u8, first: &'a [u8], second: &'a [u8], result: &[u8]) -> bool {
+    let lowest = lowest_end(first, second);
+    let highest = highest_end(first, second);
+    match pool(first, second) {
+        PoolResult::Ok(pooled) => {
+            if expected != 0 {
+                return false;
+            }
+            if !is_told(pooled, result) {
+                return false;
+            }
+            if result.len() < ENDS_AT {
+                return false;
+            }
+            are_ends(lowest, highest, &result[ENDS_AT..])
+        }
+        PoolResult::Err(e) => {
+            if e.number() != expected as u32 {
+                return false;
+            }
+            if result.len() != 0 {
+                return false;
+            }
+            are_ends(lowest, highest, result)
+        }
+    }
+}
+
 // Whether a case comes out as expected. Its inputs are the routine's, in their order; one that the routine does not take has to be empty, so that no case
 // passes with bytes that nothing looked at.
-pub fn is_right(
+pub fn is_right<'a>(
     question: Question,
-    first: &[u8],
-    second: &[u8],
+    first: &'a [u8],
+    second: &'a [u8],
     third: &[u8],
     result: &[u8],
 ) -> bool {
@@ -202,6 +276,9 @@ pub fn is_right(
     }
     if routine == HOLDS_TEST {
         return is_held(question.expected, first, second, result);
+    }
+    if routine == POOL {
+        return is_pooled(question.expected, first, second, result);
     }
     if routine != TEST_SUMMARY {
         if second.len() != 0 {
