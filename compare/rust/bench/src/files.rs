@@ -1,4 +1,4 @@
-//! The summaries that are timed, each with the sheet of a predicate, kind by kind.
+//! The summaries that are timed, each with the sheet of a predicate, or two that are pooled, kind by kind.
 
 use beside::draw::Draw;
 use beside::leaf::{LITERALS, Leaf, column, compare, operator, transform};
@@ -21,8 +21,14 @@ impl Verdicts {
     }
 }
 
-/// All kinds, in the order of the tables.
-pub fn all() -> Vec<Verdicts> {
+/// The pairs of summaries of one kind that are pooled.
+pub struct Pools {
+    pub name: String,
+    pub pairs: Vec<(Vec<u8>, Vec<u8>)>,
+}
+
+/// All kinds of tests, in the order of the tables.
+pub fn verdicts() -> Vec<Verdicts> {
     let (ints, strings) = ((column::INT, Draw::int as Content), (column::STRING, Draw::short_start as Content));
     let set = format!("In, {LITERALS}");
     vec![
@@ -36,8 +42,31 @@ pub fn all() -> Vec<Verdicts> {
     ]
 }
 
+/// All kinds of pairs, in the order of the tables.
+pub fn pools() -> Vec<Pools> {
+    vec![pairs("Int", column::INT, Draw::int), pairs("String", column::STRING, Draw::lot_code)]
+}
+
 /// Draws a content.
 type Content = fn(&mut Draw) -> Vec<u8>;
+
+/// Two ends that are drawn, the lowest first.
+fn ends(draw: &mut Draw, column: u8, end: Content) -> [Vec<u8>; 2] {
+    let mut ends = [end(draw), end(draw)];
+    ends.sort_by(|a, b| compare(column, a, b));
+    ends
+}
+
+/// Files with ends that are drawn: of two, either may have the lower lowest and either the higher highest.
+fn pairs(name: &str, column: u8, end: Content) -> Pools {
+    let mut draw = Draw::new();
+    let mut file = || {
+        let [lowest, highest] = ends(&mut draw, column, end);
+        summary_of(column, &lowest, &highest)
+    };
+    let pairs = (0..LEAVES).map(|_| (file(), file())).collect();
+    Pools { name: format!("Summary, {name}: two files"), pairs }
+}
 
 /// Literals that are drawn, and ends that are, mostly far apart.
 fn apart(name: &str, operator: u16, literals: usize, (column, literal): (u8, Content), end: Content) -> Verdicts {
@@ -45,9 +74,7 @@ fn apart(name: &str, operator: u16, literals: usize, (column, literal): (u8, Con
     let leaves = if literals == 1 { LEAVES } else { SETS };
     let test = |_| {
         let literals = (0..literals).map(|_| literal(&mut draw)).collect();
-        let mut ends = [end(&mut draw), end(&mut draw)];
-        ends.sort_by(|a, b| compare(column, a, b));
-        asked(operator, column, literals, &ends)
+        asked(operator, column, literals, &ends(&mut draw, column, end))
     };
     Verdicts::new(name, (0..leaves).map(test).collect())
 }

@@ -4,7 +4,7 @@
 use beside::draw::Draw;
 use beside::leaf::{LITERALS, Leaf, Question, column, operator, transform};
 
-use crate::files::{self, Verdicts};
+use crate::files::{self, Pools, Verdicts};
 
 /// Leaves of a kind: several, so that no branch is learned from one literal alone.
 pub const LEAVES: usize = 16;
@@ -22,6 +22,8 @@ pub enum Kind {
     Holds(Projections),
     /// The test of summaries.
     Verdict(Verdicts),
+    /// The pooling of summaries.
+    Pool(Pools),
 }
 
 impl Kind {
@@ -30,6 +32,7 @@ impl Kind {
             Kind::Projection(kind) | Kind::Holds(kind) => &kind.name,
             Kind::Transform(kind) => &kind.name,
             Kind::Verdict(kind) => &kind.name,
+            Kind::Pool(kind) => &kind.name,
         }
     }
 
@@ -40,6 +43,7 @@ impl Kind {
             Kind::Transform(_) => "transform",
             Kind::Holds(_) => "holds",
             Kind::Verdict(_) => "verdict",
+            Kind::Pool(_) => "pool",
         }
     }
 }
@@ -111,7 +115,8 @@ pub fn all() -> Vec<Kind> {
     let mut kinds: Vec<Kind> = projections.into_iter().map(Kind::Projection).collect();
     kinds.extend(transforms().into_iter().map(Kind::Transform));
     kinds.extend(tested.into_iter().map(Kind::Holds));
-    kinds.extend(files::all().into_iter().map(Kind::Verdict));
+    kinds.extend(files::verdicts().into_iter().map(Kind::Verdict));
+    kinds.extend(files::pools().into_iter().map(Kind::Pool));
     kinds
 }
 

@@ -55,7 +55,11 @@ pub fn test(answer: &[u8], partition: &[u8]) -> (Predicate, Value) {
 /// A predicate and a summary to test with it.
 pub fn test_file(answer: &[u8], summary: &[u8]) -> (Predicate, Summary) {
     let predicate = Predicate::from_bytes(answer).expect("an answer sheet");
-    (predicate, Summary::from_bytes(summary).expect("a summary"))
+    (predicate, file(summary))
+}
+
+pub fn file(summary: &[u8]) -> Summary {
+    Summary::from_bytes(summary).expect("a summary")
 }
 
 pub fn setting(column: u8, transform: u8, width: u32) -> (Type, Transform) {

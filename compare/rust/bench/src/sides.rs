@@ -6,10 +6,10 @@ use std::hint::black_box;
 use beside::crate_side::{self, Literals, Prepared, PreparedValue};
 use beside::leaf::{Answer, Leaf, Question, SHEET_BUFFER, Transformed, VALUE_BUFFER, VERDICT_BUFFER, Value, number};
 use beside::port;
-use beside::sheet::{predicate_of, sheet_of, value_of, value_record};
+use beside::sheet::{pooled_of, predicate_of, sheet_of, value_of, value_record};
 use timing::{a_call, in_turn, pass};
 
-use crate::files::Verdicts;
+use crate::files::{Pools, Verdicts};
 use crate::kinds::{Projections, Values};
 use crate::rust_crate::{self, Parts};
 
@@ -98,6 +98,26 @@ pub fn time_verdict(kind: &Verdicts) -> Times {
         None,
     ]);
     a_call(times, asked.len())
+}
+
+/// The pooling of each two summaries of a kind. The crate's published files have none.
+pub fn time_pool(kind: &Pools) -> Times {
+    let pairs = &kind.pairs;
+    let typed: Vec<_> = pairs.iter().map(|(first, second)| [first, second].map(|s| rust_crate::file(s))).collect();
+    for ((first, second), [one, other]) in pairs.iter().zip(&typed) {
+        let (number, numbers) = port::pool(first, second);
+        assert_eq!(number, number::WRITTEN, "{}: a pooled summary", kind.name);
+        let again = one.pool(other).expect("no refusal");
+        assert_eq!(again.as_bytes(), pooled_of(first, second, numbers), "{}: {one} and {other}", kind.name);
+    }
+    let times = in_turn([
+        None,
+        None,
+        pass(pairs, |(first, second)| port::pool(first, second)),
+        pass(&typed, |[one, other]| one.pool(other)),
+        None,
+    ]);
+    a_call(times, pairs.len())
 }
 
 /// The transform of the values of a kind. What is ready is the crate's transform function; its other side makes it anew.

@@ -20,6 +20,7 @@ impl Row {
             Kind::Transform(kind) => sides::time_transform(kind),
             Kind::Holds(kind) => sides::time_holds(kind),
             Kind::Verdict(kind) => sides::time_verdict(kind),
+            Kind::Pool(kind) => sides::time_pool(kind),
         });
         let row = |(kind, times): (&Kind, Times)| Row { name: kind.name().to_string(), asked: kind.asked(), times };
         kinds.iter().zip(times).map(row).collect()

@@ -41,6 +41,7 @@ pub mod number {
     pub const TOO_LARGE: u32 = 10;
     /// And of summaries alone.
     pub const WRONG_SUMMARY: u32 = 11;
+    pub const DIFFERENT_TYPES: u32 = 12;
 }
 
 /// Column types.

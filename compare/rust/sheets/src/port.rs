@@ -1,5 +1,5 @@
 //! The port's C entry points (crates/weighpick_c), called with slices. Each hands back document 01's number and, where
-//! there is one, the count of bytes written.
+//! there is one, the count of bytes written; pooling the three numbers that it sets.
 
 use crate::filter::Asked;
 use crate::leaf::Question;
@@ -33,6 +33,15 @@ unsafe extern "C" {
         out_len: usize,
         count: *mut u64,
     ) -> u32;
+    fn weighpick_pool(
+        first: *const u8,
+        first_len: usize,
+        second: *const u8,
+        second_len: usize,
+        lowest: *mut u64,
+        highest: *mut u64,
+        flag: *mut u64,
+    ) -> u32;
     fn weighpick_filter_row(
         columns: *const u8,
         columns_len: usize,
@@ -59,7 +68,7 @@ unsafe extern "C" {
     ) -> u32;
 }
 
-/// What the count holds before a call, so that a count that was not set shows.
+/// What the count, or a number, holds before a call, so that one that was not set shows.
 const UNSET: u64 = u64::MAX;
 
 /// One projection of a sheet into `out`: number and count.
@@ -119,6 +128,17 @@ pub fn test_summary(sheet: &[u8], summary: &[u8], out: &mut [u8]) -> (u32, u64) 
         )
     };
     (number, count)
+}
+
+/// The pooling of two summaries: number, and whose the lowest and the highest end are, and the flag.
+#[inline]
+pub fn pool(first: &[u8], second: &[u8]) -> (u32, [u64; 3]) {
+    let (mut lowest, mut highest, mut flag) = (UNSET, UNSET, UNSET);
+    // SAFETY: pointers and lengths are those of live slices; the three numbers are lent to this call alone.
+    let number = unsafe {
+        weighpick_pool(first.as_ptr(), first.len(), second.as_ptr(), second.len(), &mut lowest, &mut highest, &mut flag)
+    };
+    (number, [lowest, highest, flag])
 }
 
 /// What a filter is answered by the values of its columns: the number.

@@ -60,6 +60,13 @@ pub fn summary_of(column: u8, lowest: &[u8], highest: &[u8]) -> Vec<u8> {
     [&end(lowest)[..], &end(highest), &[column, 0]].concat()
 }
 
+/// The pooled summary of two, by the three numbers of pooling: the end of the first, under 0, or of the second, under 1,
+/// and the flag.
+pub fn pooled_of(first: &[u8], second: &[u8], [lowest, highest, flag]: [u64; 3]) -> Vec<u8> {
+    let end = |whose: u64, record: usize| &[first, second][whose as usize][record * RECORD..][..RECORD];
+    [end(lowest, 0), end(highest, 1), &[first[2 * RECORD], flag as u8]].concat()
+}
+
 /// Operator and literals of an answer sheet; none unless it is what document 01 says an answer sheet is: transform 0,
 /// width 0, its literals in records 1, 2, .. in the order of the chain, every other byte zero.
 pub fn predicate_of(sheet: &[u8]) -> Option<(u16, Vec<Vec<u8>>)> {
