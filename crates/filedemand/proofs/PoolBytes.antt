@@ -36,7 +36,7 @@ use Rattle.pool.specs.Pooling.{of, secondWhere, whoseLowest, whoseHighest, join
 use Rattle.pool.specs.laws.PoolLaws.{bothEncoded, bothOrdered, joinedEnds}
 use Rattle.pool.specs.declared.pool.Whose.{Whose}
 use Rattle.pool.specs.declared.pool.Whose.the-variants.{First, Second}
-use Rattle.files.specs.PoolDemand.{Pools, NoneIn, PooledWith, PooledIsSummary, AddsItsMark, EmptyAddsNothing, EitherOrder}
+use Rattle.files.specs.PoolDemand.{Pools, NoneIn, PooledWith, PooledIsSummary, PooledAgain, AddsItsMark, EmptyAddsNothing, EitherOrder}
 use Rattle.filedemand.proofs.JoinedEnds.{column-sorts, joined-ordered}
 use Rattle.filedemand.proofs.PoolParts.{Sound, fileOf, parts, checked, bytesOf, pooled-checks, soundOf, pool-parts}
 use Rattle.filedemand.proofs.PoolParts.{lowestFrom, highestFrom, endsFrom, lowest-is, highest-is, pooled-sound}
@@ -87,7 +87,10 @@ with-itself {column} {f} s =
     (kept f _ ∙ sym (summary-whole f (fileOf s) (parts s)))
 
 pub pooled-is-summary : PooledIsSummary
-pooled-is-summary a b f e =
+pooled-is-summary a b f e = (_, pooled-sound (pool-parts a b f e))
+
+pub pooled-again : PooledAgain
+pooled-again a b f e =
     let p = pool-parts a b f e in
     let s : Sound (p .column) f = record {
       ends = endsFrom (p .first) (p .second);

@@ -11,7 +11,7 @@ use Rattle.values.specs.Words.{word, AllBytes}
 use Rattle.values.specs.declared.datatypes.PrimitiveType.{PrimitiveType}
 use Rattle.projection.specs.declared.question.Question.the-variants.{Inclusive}
 use Rattle.api.specs.Demand3.{Returns, Accepts, RowOf}
-use Rattle.summary.specs.Summaries.{nonePresent, flagAt, saysMissing, saysNone, summary}
+use Rattle.summary.specs.Summaries.{nonePresent, Summary, flagAt, saysMissing, saysNone, summary}
 use Rattle.pool.specs.Pooling.{pooled}
 use Rattle.files.specs.FileDemand.{Covers, Skips}
 
@@ -19,9 +19,12 @@ use Rattle.files.specs.FileDemand.{Covers, Skips}
 abbrev pub Pools : List ℕ → List ℕ → List ℕ → Type 0
 Pools a b f = pooled a b ≡ ok f
 
--- f is a summary that nothing refuses: pooled with itself it stays as it is
 abbrev pub PooledIsSummary : Type 0
-PooledIsSummary = (a b f : List ℕ) → Pools a b f → Pools f f f
+PooledIsSummary = (a b f : List ℕ) → Pools a b f → (y : Summary) × (summary f ≡ ok y)
+
+-- it can be pooled again: its ends are UTF-8 and in order as well, and with itself it gives itself
+abbrev pub PooledAgain : Type 0
+PooledAgain = (a b f : List ℕ) → Pools a b f → Pools f f f
 
 -- the pooled file may hold what either of the two may hold
 abbrev pub PooledCoversEach : Type 0
@@ -35,7 +38,7 @@ PooledSkipsEach = (s a b f : List ℕ) → Pools a b f → Skips s f → Skips s
 abbrev pub NoRowInSkippedPool : Type 0
 NoRowInSkippedPool = (s q a b f v p : List ℕ) → RowOf s p v → Pools a b f → Covers a p ⊎ Covers b p → Returns Inclusive s q → Skips q f → Accepts s v → ⊥
 
--- ---- files without present values, on either side; what is said of bytes is said of entries below 256
+-- ---- files without present values, on either side: `AllBytes`, since a list with entries above 255 may say the same as another
 
 -- the summary of a file without present values, with a missing one or not
 abbrev pub NoneIn : Bool → List ℕ → Type 0
@@ -60,6 +63,7 @@ EitherOrder = (a b : List ℕ) → AllBytes a → AllBytes b → pooled a b ≡ 
 
 pub record PoolDemand : Type 0 where
   pub pooled-is-summary : PooledIsSummary
+  pub pooled-again : PooledAgain
   pub pooled-covers-each : PooledCoversEach
   pub pooled-skips-each : PooledSkipsEach
   pub no-row-in-skipped-pool : NoRowInSkippedPool

@@ -1,20 +1,22 @@
 -- What two summaries are answered, as checks in their order and the pooled summary; and the ends that it has. Assumes nothing.
 use Prim.Native.Nat.{ℕ}
 use mathlib.Core.Bool.{Bool, _&&_}
-use mathlib.Core.List.{List}
+use mathlib.Core.List.{List, [], _∷_, _++_}
 use mathlib.Core.Path.{_≡_, ap, _∙_}
 use Rattle.values.specs.Order.{isLess}
 use Rattle.values.specs.Outcomes.{Res, ok, err, need, _>>_}
 use Rattle.values.specs.laws.OutcomeLaws.{need-both, need-read}
 use Rattle.values.specs.Types.{sameType}
+use Rattle.values.specs.Words.{field}
 use Rattle.values.specs.declared.error.ErrorKind.{ErrorKind}
 use Rattle.values.specs.declared.error.ErrorKind.the-variants.{NotUtf8, WrongSummary, DifferentTypes}
 use Rattle.values.specs.declared.order.Ordering.{Ordering}
 use Rattle.summary.specs.EndValues.{compareIn, ordered}
-use Rattle.summary.specs.Summaries.{Ends, nonePresent, _to_, Summary}
+use Rattle.summary.specs.Summaries.{Ends, nonePresent, _to_, Summary, typeAt}
 use Rattle.summary.specs.code.SummaryAnswers.{endsEncoded}
 use Rattle.summary.specs.laws.EndLaws.{ends-read}
-use Rattle.pool.specs.Pooling.{of, secondWhere, joined, poolOf, pool}
+use Rattle.pool.specs.Handed.{lowestEnd, highestEnd}
+use Rattle.pool.specs.Pooling.{of, secondWhere, joined, poolOf, pool, pooled}
 use Rattle.pool.specs.code.PoolAnswers.{poolResult}
 use Rattle.pool.specs.declared.pool.Pooled.{Pooled}
 use Rattle.pool.specs.declared.pool.PoolResult.{PoolResult}
@@ -52,6 +54,11 @@ module _ {A : Type 0} (compare : A → A → Ordering) where
   joinedEnds x nonePresent = x
   joinedEnds nonePresent (m to k) = m to k
   joinedEnds (l to h) (m to k) = of (secondWhere (isLess (compare m l))) l m to of (secondWhere (isLess (compare h k))) h k
+
+-- the pooled summary is put together from the ends that are handed back
+pub from-its-ends : (a b : List ℕ) {p : Pooled} → pool a b ≡ ok p → pooled a b ≡ ok (lowestEnd a b ++ highestEnd a b ++ field typeAt 1 a ++ (p .flag ∷ []))
+unfolding pooled
+from-its-ends a b is = rw is
 
 -- ---- the code's answer
 module _ (a b : List ℕ) {r : PoolResult} (d : r ≡ poolResult (pool a b)) where
