@@ -1,17 +1,30 @@
 -- `pool::join` meets its contract: by whether each file has present values, and then by the order of their ends. Assumes nothing.
+use mathlib.Core.Bool.{_||_, or-comm}
+use mathlib.Core.Path.{_≡_}
 use denote.Ref.{now}
 use borrow.Author.Needs.{needs}
 use borrow.Author.Tests.{not-false}
+use Rattle.summary.specs.Summaries.{flagOf}
 use Rattle.pool.proofs.PoolArms.{none-in-second, none-in-first, some-in-both}
 use Rattle.pool.proofs.pool.join.Statement.{statement}
 use Rattle.pool.proofs.pool.join.Tie as tie
+
+-- the flag, in whichever order either file is asked
+flagged : (c : tie.After-flag-of) → let a = c .before .before .before .before .before .before .before .args in
+    c .flag-of .result ≡ flagOf (a .x .missing || a .y .missing) (a .x .present || a .y .present)
+flagged c =
+    let a = c .before .before .before .before .before .before .before .args in
+    let missing = or-comm (a .x .missing) (a .y .missing) in
+    let present = or-comm (a .x .present) (a .y .present) in
+    let told = c .flag-of .ensures in
+    cc
 
 returns : tie.Need-returns
 returns c =
     let flag = c .before .before in
     let a = flag .before .before .before .before .before .before .before .args in
     none-in-second (a .x .column) (now (a .first)) (now (a .second)) (a .x .missing) (a .y .missing) (a .x .present) (a .y .present) (c .if1 .taken)
-    (flag .flag-of .ensures)
+    (flagged flag)
 
 returns-2 : tie.Need-returns-2
 returns-2 c =
@@ -20,7 +33,7 @@ returns-2 c =
     let a = flag .before .before .before .before .before .before .before .args in
     none-in-first (a .x .column) (now (a .first)) (now (a .second)) (a .x .missing) (a .y .missing) (a .x .present) (a .y .present) (second .if1 .left)
     (c .if2 .taken)
-    (flag .flag-of .ensures)
+    (flagged flag)
 
 is-below-requires : tie.Need-is-below-requires
 is-below-requires c κs =
@@ -48,7 +61,7 @@ returns-3 c =
     (c .second-where2 .ensures)
     (low .before .is-below .ensures)
     (c .before .is-below2 .ensures)
-    (flag .flag-of .ensures)
+    (flagged flag)
 
 pub join-spec : {M : Type 1} → statement M
 join-spec =
