@@ -83,6 +83,17 @@ fn is_filled_from(count: usize, out: &[u8]) -> bool {
     true
 }
 
+// Asks for the transform of a value.
+fn ask_transform(question: Question, value: &[u8], out: &mut [u8]) -> Answer {
+    transform_literal(
+        question.column_type,
+        question.transform,
+        question.width,
+        value,
+        out,
+    )
+}
+
 // Asks one of the four routines that write a result; the test of a summary takes both inputs, the others the first.
 fn ask(question: Question, first: &[u8], second: &[u8], out: &mut [u8]) -> Answer {
     let routine = question.routine;
@@ -95,13 +106,7 @@ fn ask(question: Question, first: &[u8], second: &[u8], out: &mut [u8]) -> Answe
     if routine == TEST_SUMMARY {
         return test_summary(first, second, out);
     }
-    transform_literal(
-        question.column_type,
-        question.transform,
-        question.width,
-        first,
-        out,
-    )
+    ask_transform(question, first, out)
 }
 
 // Whether such a routine, lent this buffer, gives the number expected, counts and writes the result, and leaves every later byte.
@@ -198,22 +203,6 @@ fn wide(byte: u8) -> u64 {
     byte as u64
 }
 
-// Whether a result starts with whose the ends are, and the flag.
-fn is_told(pooled: Pooled, result: &[u8]) -> bool {
-    if result.len() < ENDS_AT {
-        return false;
-    }
-    let lowest = pooled.lowest;
-    let highest = pooled.highest;
-    if lowest.number() != wide(result[0]) {
-        return false;
-    }
-    if highest.number() != wide(result[1]) {
-        return false;
-    }
-    pooled.flag == result[2]
-}
-
 // Whether the two ends, one after the other, are these bytes.
 fn are_ends(lowest: &[u8], highest: &[u8], ends: &[u8]) -> bool {
     if !starts_with(ends, lowest) {
@@ -229,7 +218,26 @@ fn are_ends(lowest: &[u8], highest: &[u8], ends: &[u8]) -> bool {
     starts_with(&ends[n..], highest)
 }
 
-// Whether pooling gives the number expected, after 0 with the result, and hands back the ends; after a refusal result and ends are empty.
+// Whether a result is whose the ends are, the flag, and the ends.
+fn is_told(pooled: Pooled, lowest: &[u8], highest: &[u8], result: &[u8]) -> bool {
+    if result.len() < ENDS_AT {
+        return false;
+    }
+    let low = pooled.lowest;
+    let high = pooled.highest;
+    if low.number() != wide(result[0]) {
+        return false;
+    }
+    if high.number() != wide(result[1]) {
+        return false;
+    }
+    if pooled.flag != result[2] {
+        return false;
+    }
+    are_ends(lowest, highest, &result[ENDS_AT..])
+}
+
+// Whether pooling gives the number expected, and hands back the ends; after a refusal they are empty, as the result is.
 fn is_pooled<'a>(expected: u8, first: &'a [u8], second: &'a [u8], result: &[u8]) -> bool {
     let lowest = lowest_end(first, second);
     let highest = highest_end(first, second);
@@ -238,19 +246,10 @@ fn is_pooled<'a>(expected: u8, first: &'a [u8], second: &'a [u8], result: &[u8])
             if expected != 0 {
                 return false;
             }
-            if !is_told(pooled, result) {
-                return false;
-            }
-            if result.len() < ENDS_AT {
-                return false;
-            }
-            are_ends(lowest, highest, &result[ENDS_AT..])
+            is_told(pooled, lowest, highest, result)
         }
         PoolResult::Err(e) => {
             if e.number() != expected as u32 {
-                return false;
-            }
-            if result.len() != 0 {
                 return false;
             }
             are_ends(lowest, highest, result)
