@@ -2,9 +2,9 @@
 use crate::asked::Asked;
 use crate::asked::without_predicate;
 use expr::operator::PredicateOperator;
+use expr::test::missing_holds;
 use expr::test::number_meets;
 use meets::held::Held;
-use meets::literals::missing_holds;
 use meets::test::answered;
 use numbers::steps::NumberProjection;
 use numbers::steps::project_number;

@@ -1,12 +1,23 @@
-// Tests of a present value against one literal: a part of document 01's holds-test, which the Rust does not have.
+// Tests of a missing value, and of a present one against one literal: a part of document 01's holds-test, which the Rust does not have.
 use crate::operator::PredicateOperator;
 use values::order::Ordering;
 use values::order::compare_bytes;
 use values::order::starts_with;
 ghost use mathlib.Core.Path.{_≡_};
 ghost use Rattle.expr.specs.Operators.{byArity};
-ghost use Rattle.expr.specs.Holds.{numberTests, bytesTests};
+ghost use Rattle.expr.specs.Holds.{numberTests, bytesTests, missingMeets};
 ghost use Rattle.expr.specs.code.OperatorAnswers.{meetsOne, asksFor};
+
+// Whether a missing value meets an operator, whatever its literals.
+pub fn missing_holds(operator: PredicateOperator) -> bool
+    ensures { λ r. ⌜ r ≡ missingMeets (byArity operator) ⌝ }
+{
+    if let PredicateOperator::IsNull = operator {
+        true
+    } else {
+        false
+    }
+}
 
 // Whether a number meets an operator that takes one literal; no other operator is met.
 pub fn number_meets(operator: PredicateOperator, v: i64, l: i64) -> bool

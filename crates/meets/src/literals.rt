@@ -14,8 +14,6 @@ ghost use mathlib.Core.Bool.{true};
 ghost use Rattle.values.specs.Ascending.{elem};
 ghost use Rattle.values.specs.Order.{compareNumbers, compareBytes};
 ghost use Rattle.values.specs.Types.{layout};
-ghost use Rattle.expr.specs.Operators.{byArity};
-ghost use Rattle.expr.specs.Holds.{missingMeets};
 ghost use Rattle.meets.specs.code.HeldAnswers.{numberMeets, bytesMeets};
 ghost use Rattle.sheet.specs.code.ReadAnswers.{Placed, contentsAt, numbersAt};
 
@@ -47,17 +45,6 @@ pub fn bytes_among(s: &[u8], records: &[u16], count: usize, column: PrimitiveTyp
         i += 1;
     }
     false
-}
-
-// Whether a missing value meets an operator, whatever its literals.
-pub fn missing_holds(operator: PredicateOperator) -> bool
-    ensures { λ r. ⌜ r ≡ missingMeets (byArity operator) ⌝ }
-{
-    if let PredicateOperator::IsNull = operator {
-        true
-    } else {
-        false
-    }
 }
 
 // Whether a present number meets an operator with those literals.

@@ -1,8 +1,8 @@
 // Whether a row meets a leaf, by the records of a sheet.
 use crate::held::Held;
 use crate::literals::bytes_holds;
-use crate::literals::missing_holds;
 use crate::literals::number_holds;
+use expr::test::missing_holds;
 use sheet::content::literals_utf8;
 use sheet::content::number_in;
 use sheet::content::value_utf8;

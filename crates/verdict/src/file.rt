@@ -3,7 +3,7 @@ use crate::verdict::Verdict;
 use crate::verdict::VerdictResult;
 use ends::numbers::some_meets;
 use ends::texts::rules_out;
-use meets::literals::missing_holds;
+use expr::test::missing_holds;
 use sheet::content::literals_encoded;
 use sheet::literal::content_of;
 use sheet::literal::number_of;
