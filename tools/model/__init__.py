@@ -14,8 +14,8 @@ from .codes import (
     VALUE_ROOM, NAME, COLUMNS, ENTRY, TEXT_BYTES, LEAVES, BRACKETS, TYPE_AT, FLAG_AT, SUMMARY, VERDICT_ROOM, INT, LONG,
     DATE, TIME, TS, TSTZ, TSNS, TSTZNS, STRING, BINARY, TYPES, IDENTITY, TRUNCATE, YEAR, MONTH, DAY, HOUR, VOID, UNKNOWN,
     TRANSFORMS, IS_NULL, NOT_NULL, IS_NAN, NOT_NAN, UNARY, LT, LE, GT, GE, EQ, NOT_EQ, STARTS, NOT_STARTS, ONE_LITERAL,
-    IN, NOT_IN, SETS, OPERATORS, SKIP, READ, WHOLE, MICROS, NANOS, Refused, is_number, range_of, read_literal,
-    literal_bytes,
+    IN, NOT_IN, SETS, OPERATORS, HAS_MISSING, SKIP, READ, WHOLE, MICROS, NANOS, Refused, is_number, range_of,
+    read_literal, literal_bytes,
 )
 from .checks import check_numbers, check_pools, check_texts
 from .columns import WORDS, part_type, entry, values_of
@@ -23,7 +23,7 @@ from .filters import filter_row, filter_project
 from .pooling import pool, pooled_summary
 from .program import printed
 from .routines import holds, project, transform
-from .sheets import read_value, record, value_record, sheet_of, answer_sheet
+from .sheets import word, read_value, record, value_record, sheet_of, answer_sheet
 from .summaries import summary_of
 from .texts import SIGNS
 from .transforms import PER_SECOND, FIRST_DAY, LAST_DAY, result_type, day_number
