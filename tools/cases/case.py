@@ -18,8 +18,10 @@ class Cases:
     def lent(self, least):
         return least + (0, 1, 44)[len(self.all) % 3]
 
-    def holds(self, group, sheet, value):
-        self.all.append(Case(group, HOLDS, model.holds(sheet, value), 0, 0, 0, [sheet, value], b"", 0))
+    def holds(self, group, sheet, value, told=None):
+        number = model.holds(sheet, value)
+        assert told in (None, number), (group, sheet, value, told)
+        self.all.append(Case(group, HOLDS, number, 0, 0, 0, [sheet, value], b"", 0))
 
     def project(self, group, strict, sheet, lent=None, told=None):
         lent = self.lent(SHEET_ROOM) if lent is None else lent

@@ -49,6 +49,7 @@ GROUPS = {
     41: "pooled summaries: refusals in order",
     42: "pooled summaries: one byte damaged",
     43: "pooled summaries: at random",
+    44: "missing values",
 }
 HEADER, INPUTS = struct.Struct("<BBBBBxIHHHHH"), 3
 

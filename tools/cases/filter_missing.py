@@ -28,24 +28,29 @@ def not_utf8(cases):
         group.alike_bytes(two.list, b"s=''", *2 * [patched(two.row(bad, bad), place, b"\x01")], 3)
 
 
-def missing_values(cases):
-    """A missing value meets no leaf, turned or not; where a projection gives no predicate, it is not asked."""
+def filters_of_missing(cases):
+    """A missing value meets != and, under not, = and startswith; where a projection gives no predicate, it is not asked."""
     group = Group(cases, 21)
+    met = (b"", b"!="), (b"not ", b"="), (b"not ", b"startswith"), (b"not not ", b"!=")
     for column in TYPES:
         literal = b"5" if column < STRING else b"'5'"
-        for word, sign in itertools.product((b"", b"not "), SIGNS):
-            group.row(Table(v=(column,)), b"%sv %s %s" % (word, sign, literal), (None,), 1)
+        for word, sign in itertools.product((b"", b"not ", b"not not "), SIGNS):
+            group.row(Table(v=(column,)), b"%sv %s %s" % (word, sign, literal), (None,), 0 if (word, sign) in met else 1)
     table = Table(v=(INT, TRUNCATE, 10), a=(INT,))
     for text, told in (
         (b"v<5", (1, 1)),
         (b"not v<5", (1, 1)),
         (b"v=5", (1, 1)),
-        (b"v!=5", (0, 1)),
-        (b"not v=5", (0, 1)),
+        (b"v!=5", (0, 0)),
+        (b"not v=5", (0, 0)),
+        (b"not v!=5", (1, 1)),
         (b"v startswith 5", (1, 1)),
+        (b"not v startswith 5", (0, 1)),
         (b"v<5 or a<1", (0, 0)),
         (b"not(v<5 and a<1)", (1, 1)),
-        (b"not(v=5 and a<1)", (0, 1)),
+        (b"not(v=5 and a<1)", (0, 0)),
+        (b"v!=5 and a<1", (0, 0)),
+        (b"v!=5 and a>=1", (1, 1)),
     ):
         group.parts(table, text, (None, 0), told)
     for text in (b"v<5", b"not v<5", b"v=5", b"not v=5", b"v startswith 5", b"not v startswith 5"):

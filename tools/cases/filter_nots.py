@@ -54,6 +54,6 @@ def nots(cases):
         (4, b"ab", b"abc", (1, 1)),
         (4, b"ab", b"b", (0, 0)),
         (2, "é".encode(), "éa".encode(), (1, 1)),
-        (2, b"a", None, (1, 1)),
+        (2, b"a", None, (0, 0)),
     ):
         group.parts(Table(a=(STRING, TRUNCATE, width)), b"not a startswith '%s'" % literal, (value,), told)

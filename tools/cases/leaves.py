@@ -1,6 +1,9 @@
 """What the groups build their bytes with: a leaf as a sheet, a literal, a missing value, new bytes put over old ones."""
 from model import MISSING, IDENTITY, UNARY, ONE_LITERAL, literal_bytes, record, sheet_of
 
+# The operators that a missing value meets, in numerals, by hand: the model has to agree wherever a case is told by them.
+MISSING_MEETS = (101, 206, 208, 302)
+
 
 def leaf(operator, column, literals=(), transform=IDENTITY, width=0):
     return sheet_of(operator, column, [literal_bytes(column, l) for l in literals], transform, width)

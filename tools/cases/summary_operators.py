@@ -1,8 +1,8 @@
 """Group 33, summaries: every operator, kind and flag."""
-from model import INT, LONG, DATE, TIME, TS, TSTZ, TSNS, TSTZNS, STRING, BINARY, TYPES, OPERATORS, is_number
+from model import INT, LONG, DATE, TIME, TS, TSTZ, TSNS, TSTZNS, STRING, BINARY, TYPES, OPERATORS, SKIP, READ, WHOLE, is_number
 
 from .file_cases import Files
-from .leaves import literals_for
+from .leaves import MISSING_MEETS, literals_for
 
 # A number of each type, with others near it and far from it; and texts, ascending.
 AT = {INT: -300, LONG: 2**40, DATE: 19000, TIME: 86399999999, TS: -1, TSTZ: 17 * 10**14, TSNS: 0, TSTZNS: -(10**18)}
@@ -22,5 +22,6 @@ def every_operator_and_flag(cases):
             literals = literals_for(operator, [at, after])
             for i, ends in enumerate(((below, before), (before, after), (at, at), (after, above))):
                 group.ask(operator, column, literals, ends, (turn + i) % 2 == 1)
-            for missing in (False, True):
-                group.ask(operator, column, literals, (), missing)
+            met = WHOLE if is_number(column) else READ
+            group.ask(operator, column, literals, (), False, SKIP)
+            group.ask(operator, column, literals, (), True, met if operator in MISSING_MEETS else SKIP)

@@ -37,15 +37,15 @@ def number_sets(cases):
 
 
 def small_sets(group):
-    """A missing value meets neither In nor NotIn."""
+    """A missing value meets NotIn and not In: it takes a file from whole to read of In, and from skip to read of NotIn."""
     columns = itertools.cycle((INT, LONG, DATE, TSTZNS))
     for literals, files in SMALL:
         for told, some in files.items():
             for ends in some:
                 column = next(columns)
-                for operator, without in ((IN, told), (NOT_IN, OPPOSITE[told])):
+                for operator, without, gone in ((IN, told, WHOLE), (NOT_IN, OPPOSITE[told], SKIP)):
                     group.ask(operator, column, literals, ends, told=without)
-                    group.ask(operator, column, literals, ends, True, READ if without == WHOLE else without)
+                    group.ask(operator, column, literals, ends, True, READ if without == gone else without)
 
 
 def far_ends(group):

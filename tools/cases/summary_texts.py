@@ -7,7 +7,7 @@ from model import (
 )
 
 from .file_cases import Files, windows
-from .leaves import literals_for
+from .leaves import MISSING_MEETS, literals_for
 
 # The literals of a leaf, and files that it skips and files that it reads, for either type.
 TOLD = [
@@ -44,7 +44,7 @@ def texts(cases):
     table(group)
     for column, operator in itertools.product((STRING, BINARY), OPERATORS):  # all are ruled out where none is present
         group.ask(operator, column, literals_for(operator, [b"", b"a"]), (), told=SKIP)
-        group.ask(operator, column, literals_for(operator, [b"", b"a"]), (), True, READ if operator == IS_NULL else SKIP)
+        group.ask(operator, column, literals_for(operator, [b"", b"a"]), (), True, READ if operator in MISSING_MEETS else SKIP)
     for ends, literal, operator in itertools.product(windows(LETTERS), LETTERS, ONE_LITERAL):
         group.either(operator, group.rng.choice((STRING, BINARY)), [literal], ends)
     for column, some in ((STRING, POINTS), (BINARY, OCTETS), (STRING, LONG_LOTS), (BINARY, LONG_LOTS)):
@@ -53,10 +53,10 @@ def texts(cases):
 
 
 def table(group):
-    """A missing value meets IsNull alone, and then the file is read."""
+    """Where a missing value meets the operator the file is read, whatever its ends."""
     for (operator, literals, skipped, read), column in itertools.product(TOLD, (STRING, BINARY)):
         for told, some in ((SKIP, skipped), (READ, read)):
             for ends in some:
                 group.ask(operator, column, literals, ends, told=told)
             for ends in some[:1]:
-                group.ask(operator, column, literals, ends, True, READ if operator == IS_NULL else told)
+                group.ask(operator, column, literals, ends, True, READ if operator in MISSING_MEETS else told)

@@ -1,7 +1,7 @@
 """The routines: the holds-test, both projections and the transform of one value, bytes in and bytes out."""
 from .codes import (
     SHEET_RECORDS, ANSWER_RECORDS, SHEET_ROOM, VALUE_ROOM, VOID, UNKNOWN, IS_NULL, NOT_NULL, NOT_NAN, UNARY, LT, LE, GT,
-    GE, EQ, NOT_EQ, STARTS, NOT_STARTS, IN, SETS, Refused, need, is_number, read_literal,
+    GE, EQ, NOT_EQ, STARTS, NOT_STARTS, IN, NOT_IN, SETS, Refused, need, is_number, read_literal,
 )
 from .projections import steps
 from .sheets import check_head, read_sheet, read_value, check_utf8, value_record, answer_sheet
@@ -11,7 +11,7 @@ from .transforms import result_type, transformed
 def meets(operator, column, literals, v):
     """The holds-test of a value, None for a missing one."""
     if v is None:
-        return operator == IS_NULL
+        return operator in (IS_NULL, NOT_EQ, NOT_IN, NOT_STARTS)
     if operator in UNARY:
         return operator in (NOT_NULL, NOT_NAN)
     if operator in SETS:

@@ -1,5 +1,6 @@
 -- Demand 3 is about something: for each of its clauses a sheet, a row, its partition value and an answer sheet that meet what the clause asks; for the two on
--- losing and letting in, also those of a Binary column. What is public here serves `filedemand` too. Assumes nothing.
+-- losing and letting in, also those of a Binary column, and a missing row of it; for the one on strict exactness, a missing row of an Int column. What is public
+-- here serves `filedemand` too. Assumes nothing.
 use Prim.Native.Nat.{ℕ}
 use native.Mathlib.Omega.{arith}
 use mathlib.Core.List.{List, [], _∷_}
@@ -9,7 +10,7 @@ use Rattle.values.specs.Characters.{ascii}
 use Rattle.values.specs.laws.IntLaws.{lt-true}
 use Rattle.values.specs.Order as order
 use Rattle.values.specs.Order.{compareNumbers, compareBytes}
-use Rattle.values.specs.Outcomes.{present}
+use Rattle.values.specs.Outcomes.{missing, present}
 use Rattle.values.specs.Transforms.{transformOf}
 use Rattle.values.specs.Types.{inType}
 use Rattle.values.specs.Words.{signedBytes}
@@ -23,13 +24,13 @@ use Rattle.partition.specs.Partition.{transformNumber, transformBytes, partitio
 use Rattle.partition.specs.ResultType.{resultType}
 use Rattle.transform.specs.Temporal.{dayOf}
 use Rattle.transform.specs.Truncate.{truncated, firstBytes}
-use Rattle.expr.specs.Operators.{lessThanOrEq, lessThan, startsWith, notStartsWith, isIn}
+use Rattle.expr.specs.Operators.{lessThanOrEq, lessThan, notEq, startsWith, notStartsWith, isIn}
 use Rattle.expr.specs.Predicates.{test, binary, set}
 use Rattle.projection.specs.Projection.{projectNumbers, projectBytes}
 use Rattle.projection.specs.declared.question.Question.the-variants.{Inclusive, Strict}
 use Rattle.sheet.specs.Records.{content, value}
 use Rattle.sheet.specs.Sheets.{head, sheet, fields}
-use Rattle.write.specs.Written.{answerSheet}
+use Rattle.write.specs.Written.{valueRecord, answerSheet}
 use Rattle.api.specs.HoldsTest.{holdsTest}
 use Rattle.meets.specs.Tested.{testedSheet}
 use Rattle.answers.specs.Answers.{projectedLeaf, transformedRow}
@@ -138,7 +139,7 @@ startsAb = answerSheet Binary (test (binary startsWith (ascii "ab")))
 abbrev notStartsAbc : List ℕ
 notStartsAbc = sheetOf 208 10 1 2 (abc ∷ [])
 
-abbrev notStartsAb : List ℕ
+abbrev pub notStartsAb : List ℕ
 notStartsAb = answerSheet Binary (test (binary notStartsWith (ascii "ab")))
 
 abbrev noText : List ℕ
@@ -164,3 +165,39 @@ binary-no-row-lost-asks = (startsAbc, startsAb, valueOf (ascii "abcd"), valueOf 
 
 pub binary-strict-is-safe-asks : (s q v p : List ℕ) × (typeIn s ≡ 10) × RowOf s p v × Returns Strict s q × Accepts q p
 binary-strict-is-safe-asks = (notStartsAbc, notStartsAb, noText, noTextPart, refl, binary-rows .1, binary-returned .1, binary-accepted .1)
+
+-- ---- missing rows, which 02, #106, counts as different: of a Binary under Truncate 2, NotStartsWith "ab" comes to itself, and NotStartsWith "abc" strictly to
+-- NotStartsWith "ab"; of an Int under Truncate 10, NotEq 5 comes strictly to NotEq 0
+abbrev pub blank : List ℕ
+blank = valueRecord missing
+
+abbrev notStartsAbLeaf : List ℕ
+notStartsAbLeaf = sheetOf 208 10 1 2 (ascii "ab" ∷ [])
+
+abbrev pub notFive : List ℕ
+notFive = sheetOf 206 1 1 10 (int (pos 5) ∷ [])
+
+abbrev pub notNought : List ℕ
+notNought = answerSheet Int (test (binary notEq (int (pos 0))))
+
+pub blank-rows : RowOf notStartsAbLeaf blank blank × RowOf notStartsAbc blank blank × RowOf notFive blank blank
+unfolding transformValue head transformOf value transformedRow resultType numberPartition bytesPartition partition
+blank-rows = (refl, refl, refl)
+
+pub blank-returned : Returns Inclusive notStartsAbLeaf notStartsAb × Returns Strict notFive notNought
+unfolding projectSheet sheet fields head transformOf content projectedLeaf resultType projectNumbers projectBytes transformNumber transformBytes firstBytes inType
+    truncated floorMod answerSheet
+blank-returned = (refl, refl)
+
+blank-accepted : Accepts notStartsAbLeaf blank × Accepts notStartsAb blank × Accepts notNought blank
+unfolding holdsTest sheet fields head transformOf value content testedSheet answerSheet
+blank-accepted = (refl, refl, refl)
+
+pub missing-no-row-lost-asks : (s q v p : List ℕ) × (v ≡ blank) × RowOf s p v × Accepts s v × Returns Inclusive s q
+missing-no-row-lost-asks = (notStartsAbLeaf, notStartsAb, blank, blank, refl, blank-rows .0, blank-accepted .0, blank-returned .0)
+
+pub missing-strict-is-safe-asks : (s q v p : List ℕ) × (v ≡ blank) × RowOf s p v × Returns Strict s q × Accepts q p
+missing-strict-is-safe-asks = (notStartsAbc, notStartsAb, blank, blank, refl, blank-rows .1, binary-returned .1, blank-accepted .1)
+
+pub missing-strict-is-exact-asks : (s q v p : List ℕ) × (v ≡ blank) × Numeric s × RowOf s p v × Returns Strict s q × Accepts q p
+missing-strict-is-exact-asks = (notFive, notNought, blank, blank, refl, omega arith, blank-rows .2, blank-returned .1, blank-accepted .2)

@@ -1,8 +1,8 @@
--- When a predicate holds of a value, which may be missing: document 01's holds-test. A row meets a leaf, and a partition value meets a predicate, where it
--- holds. Assumes nothing.
+-- When a predicate holds of a value, which may be missing: document 01's holds-test, with 02's sentence on missing values. A row meets a leaf, and a partition
+-- value meets a predicate, where it holds. Assumes nothing.
 use Prim.Native.Nat.{ℕ}
 use mathlib.Core.Bool.{Bool, true, false, not}
-use mathlib.Core.List.{List}
+use mathlib.Core.List.{List, []}
 use mathlib.Core.Path.{_≡_, refl}
 use lib.IntN.{ℤ, pos, negsuc}
 use Rattle.values.specs.Outcomes.{Row, missing, present}
@@ -25,14 +25,22 @@ numberTests = record { compare = compareNumbers; begins = λ v l. false }
 abbrev pub bytesTests : Tests (List ℕ)
 bytesTests = record { compare = compareBytes; begins = startsWith }
 
--- 01: "A missing value meets IsNull only"
+-- 02, #106: "a missing value meets NotEq, NotIn and NotStartsWith, numbers included, besides IsNull. This replaces document 01's sentence on missing values"
 abbrev pub missingMeets : operators.Operator → Bool
 missingMeets (operators.none operators.isNull) = true
 missingMeets (operators.none operators.notNull) = false
 missingMeets (operators.none operators.isNan) = false
 missingMeets (operators.none operators.notNan) = false
-missingMeets (operators.one o) = false
-missingMeets (operators.many o) = false
+missingMeets (operators.one operators.lessThan) = false
+missingMeets (operators.one operators.lessThanOrEq) = false
+missingMeets (operators.one operators.greaterThan) = false
+missingMeets (operators.one operators.greaterThanOrEq) = false
+missingMeets (operators.one operators.eq) = false
+missingMeets (operators.one operators.notEq) = true
+missingMeets (operators.one operators.startsWith) = false
+missingMeets (operators.one operators.notStartsWith) = true
+missingMeets (operators.many operators.isIn) = false
+missingMeets (operators.many operators.notIn) = true
 
 -- of a present value, 01: "NotNull of every present value"; "IsNan holds of nothing, NotNan of every present value"; IsNull is the missing value's
 abbrev pub unaryMeets : operators.Unary → Bool
@@ -70,9 +78,15 @@ module _ {A : Type 0} (by : Tests A) where
   holds p missing = missingMeets (byArityIn p)
   holds p (present v) = presentMeets p v
 
--- a missing number does not meet NotEq 5
-missing-not-equal : holds numberTests (test (binary operators.notEq (pos 5))) missing ≡ false
-missing-not-equal = refl
+-- a missing number meets NotEq 5, NotStartsWith 5 and NotIn of no literal, and neither < 5 nor ≥ 5
+missing-differs : (holds numberTests (test (binary operators.notEq (pos 5))) missing ≡ true)
+    × (holds numberTests (test (binary operators.notStartsWith (pos 5))) missing ≡ true)
+    × (holds numberTests (test (set operators.notIn [])) missing ≡ true)
+missing-differs = (refl, refl, refl)
+
+missing-has-no-order : (holds numberTests (test (binary operators.lessThan (pos 5))) missing ≡ false)
+    × (holds numberTests (test (binary operators.greaterThanOrEq (pos 5))) missing ≡ false)
+missing-has-no-order = (refl, refl)
 
 -- -1 < 0 holds
 signed-order : holds numberTests (test (binary operators.lessThan (pos 0))) (present (negsuc 0)) ≡ true

@@ -1,5 +1,6 @@
 -- The operators of predicates: their numbers, and how many literals each takes. Assumes nothing.
 use Prim.Native.Nat.{ℕ}
+use mathlib.Core.Bool.{Bool, true, false}
 use mathlib.Core.List.{List, [], _∷_}
 use Rattle.values.specs.Numbered.{Numbered, _is_}
 use Rattle.expr.specs.declared.operator.PredicateOperator.{PredicateOperator}
@@ -95,3 +96,14 @@ oppositeBinary eq = notEq
 oppositeBinary notEq = eq
 oppositeBinary startsWith = notStartsWith
 oppositeBinary notStartsWith = startsWith
+
+-- <, ≤, > and ≥ ask for an order to the literal, the others whether the value is it or starts with it
+abbrev pub ordered : Binary → Bool
+ordered lessThan = true
+ordered lessThanOrEq = true
+ordered greaterThan = true
+ordered greaterThanOrEq = true
+ordered eq = false
+ordered notEq = false
+ordered startsWith = false
+ordered notStartsWith = false

@@ -1,4 +1,4 @@
-// Tests of a missing value, and of a present one against one literal: a part of document 01's holds-test, which the Rust does not have.
+// Tests of a missing value, and of a present one against one literal: a part of the papers' holds-test, which the Rust does not have.
 use crate::operator::PredicateOperator;
 use values::order::Ordering;
 use values::order::compare_bytes;
@@ -8,14 +8,25 @@ ghost use Rattle.expr.specs.Operators.{byArity};
 ghost use Rattle.expr.specs.Holds.{numberTests, bytesTests, missingMeets};
 ghost use Rattle.expr.specs.code.OperatorAnswers.{meetsOne, asksFor};
 
-// Whether a missing value meets an operator, whatever its literals.
+// Whether a missing value meets an operator, whatever its literals: it counts as different from each.
 pub fn missing_holds(operator: PredicateOperator) -> bool
     ensures { λ r. ⌜ r ≡ missingMeets (byArity operator) ⌝ }
 {
-    if let PredicateOperator::IsNull = operator {
-        true
-    } else {
-        false
+    match operator {
+        PredicateOperator::IsNull => true,
+        PredicateOperator::NotNull => false,
+        PredicateOperator::IsNan => false,
+        PredicateOperator::NotNan => false,
+        PredicateOperator::LessThan => false,
+        PredicateOperator::LessThanOrEq => false,
+        PredicateOperator::GreaterThan => false,
+        PredicateOperator::GreaterThanOrEq => false,
+        PredicateOperator::Eq => false,
+        PredicateOperator::NotEq => true,
+        PredicateOperator::StartsWith => false,
+        PredicateOperator::NotStartsWith => true,
+        PredicateOperator::In => false,
+        PredicateOperator::NotIn => true,
     }
 }
 

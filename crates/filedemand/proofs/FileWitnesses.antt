@@ -1,5 +1,5 @@
 -- What `files` states is about something: for each clause a sheet, a summary and records that meet what the clause asks; for those on skipping also of a Binary
--- column; and a file without present values. Assumes nothing.
+-- column; a file without present values; and missing rows in files that are flagged. Assumes nothing.
 use Prim.Native.Nat.{ℕ, _<_}
 use native.Mathlib.Omega.{arith}
 use mathlib.Core.Bool.{true, false, false≢true}
@@ -27,7 +27,8 @@ use Rattle.answers.specs.Answers.{transformedRow}
 use Rattle.api.specs.Demand3.{typeIn, Returns, RowOf, Numeric}
 use Rattle.api.specs.Requests.{sheetOf, valueOf}
 use Rattle.api.specs.Routines.{transformValue}
-use Rattle.demand.proofs.Witnesses.{int, intValue, below300, atMost290, less300, returned, startsAbc, startsAb, binary-returned}
+use Rattle.demand.proofs.Witnesses.{int, intValue, below300, atMost290, less300, returned, startsAbc, startsAb, notStartsAb, binary-returned}
+use Rattle.demand.proofs.Witnesses.{blank, notFive, notNought, blank-rows, blank-returned}
 use Rattle.summary.specs.EndValues.{compareIn, mayHold}
 use Rattle.summary.specs.Summaries.{nonePresent, summary}
 use Rattle.verdict.specs.Judged.{judged}
@@ -147,3 +148,35 @@ texts-never-whole-asks = (startsAb, alone, omega (arith, binary-type), binary-ve
 pub binary-no-row-in-skipped-file-asks : (s q f v p : List ℕ) × (typeIn s ≡ 10) × RowOf s p v × Covers f p × Returns Inclusive s q × Skips q f
 binary-no-row-in-skipped-file-asks =
     (startsAbc, startsAb, after, valueOf (ascii "adx"), valueOf (ascii "ad"), refl, binary-row, binary-held, binary-returned .0, binary-verdicts .0)
+
+-- ---- files with a missing value: the leaf < 300 skips that of 300 to 303, and the missing row there fails it; NotEq 5 under Truncate 10 takes that of 10 to 20
+-- whole, and the missing row there meets it (02, #106); a file of a Binary, of which all present values start with "ab", is read for NotStartsWith "ab"
+abbrev highAndMissing : List ℕ
+highAndMissing = summaryOf 1 1 (int (pos 300)) (int (pos 303))
+
+abbrev tens : List ℕ
+tens = summaryOf 1 1 (int (pos 10)) (int (pos 20))
+
+blank-below : RowOf below300 blank blank
+unfolding transformValue head transformOf value transformedRow resultType numberPartition partition
+blank-below = refl
+
+flagged-verdicts : Skips atMost290 highAndMissing × Wholly notNought tens
+unfolding testSummary sheet fields head transformOf content value summary judged numberVerdict between compareNumbers answerSheet
+flagged-verdicts = (refl, refl)
+
+flagged-held : Covers highAndMissing blank × Covers tens blank
+unfolding covers summary value content compareNumbers
+flagged-held = (refl, refl)
+
+pub missing-no-row-in-skipped-file-asks : (s q f v p : List ℕ) × (v ≡ blank) × RowOf s p v × Covers f p × Returns Inclusive s q × Skips q f
+missing-no-row-in-skipped-file-asks =
+    (below300, atMost290, highAndMissing, blank, blank, refl, blank-below, flagged-held .0, returned .0, flagged-verdicts .0)
+
+pub missing-only-rows-in-whole-file-asks : (s q f v p : List ℕ) × (v ≡ blank) × RowOf s p v × Covers f p × Returns Strict s q × Wholly q f
+missing-only-rows-in-whole-file-asks =
+    (notFive, notNought, tens, blank, blank, refl, blank-rows .2, flagged-held .1, blank-returned .1, flagged-verdicts .1)
+
+pub flag-decides : (testSummary notStartsAb (summaryOf 10 1 (ascii "ab") (ascii "abz")) ≡ ok Read) × Skips notStartsAb (summaryOf 10 0 (ascii "ab") (ascii "abz"))
+unfolding testSummary sheet fields head transformOf content value summary judged textVerdict compareBytes order.startsWith answerSheet
+flag-decides = (refl, refl)

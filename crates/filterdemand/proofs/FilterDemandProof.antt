@@ -61,7 +61,7 @@ module _ (side : Side) (c v : List ℕ) (cells : List Cell) (e : cellsOf side c 
   abbrev withHead : Head → Column
   withHead h = record { name = f .column .name; head = h }
 
-  leaf-cell : CellAt side v cells (l .place) (withHead (l .head))
+  pub leaf-cell : CellAt side v cells (l .place) (withHead (l .head))
   leaf-cell = subst (λ h. CellAt side v cells (l .place) (withHead h)) (f .head-is) (cell-at side c v cells e (l .place) (f .column) (f .there))
 
 -- ---- whole filters

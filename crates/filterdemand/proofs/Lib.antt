@@ -10,3 +10,4 @@ pub mod BothKindsLaws
 pub mod LeafAnswerLaws
 pub mod FilterDemandProof
 pub mod FilterUnknownProof
+pub mod NotOfLeafProof

@@ -53,6 +53,14 @@ excluded : (textVerdict (test (binary notEq (ascii "ab"))) (ascii "ab" to ascii 
 unfolding textVerdict compareBytes
 excluded = (refl, refl, refl)
 
+-- a missing lot differs from every literal (02, #106)
+excluded-but-missing : (textVerdict (test (binary notEq (ascii "ab"))) (ascii "ab" to ascii "ab") true ≡ Read)
+    × (textVerdict (test (binary notStartsWith (ascii "ab"))) lots true ≡ Read)
+    × (textVerdict (test (set notIn (ascii "ab" ∷ []))) nonePresent true ≡ Read)
+    × (textVerdict (test (binary startsWith (ascii "b"))) lots true ≡ Skip)
+unfolding textVerdict compareBytes order.startsWith
+excluded-but-missing = (refl, refl, refl, refl)
+
 -- of no literal: every one lies outside the ends, and none is at both
 of-none : (textVerdict (test (set isIn [])) lots false ≡ Skip) × (textVerdict (test (set notIn [])) lots false ≡ Read)
 unfolding textVerdict

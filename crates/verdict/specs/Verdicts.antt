@@ -64,6 +64,13 @@ by-flag : (numberVerdict (below (pos 2)) few true ≡ Read) × (numberVerdict (b
 unfolding numberVerdict between compareNumbers
 by-flag = (refl, refl, refl)
 
+-- but it meets NotEq (02, #106): by NotEq 2 these files are taken whole with their missing values; by NotEq 1 a file of 1 alone is skipped, and read if a missing
+-- value occurs
+by-flag-and-notEq : (numberVerdict (test (binary notEq (pos 2))) few true ≡ Whole) × (numberVerdict (test (binary notEq (pos 2))) nonePresent true ≡ Whole)
+    × (numberVerdict (test (binary notEq (pos 1))) (pos 1 to pos 1) true ≡ Read) × (numberVerdict (test (binary notEq (pos 1))) (pos 1 to pos 1) false ≡ Skip)
+unfolding numberVerdict between compareNumbers
+by-flag-and-notEq = (refl, refl, refl, refl)
+
 empty-file : numberVerdict (test (binary notEq (pos 0))) nonePresent false ≡ Skip
 unfolding numberVerdict
 empty-file = refl

@@ -45,7 +45,7 @@ fn judge_numbers(x: Sheet, s: &[u8], records: &[u16], file: Summary, f: &[u8]) -
         return VerdictResult::Err(ErrorKind::WrongSummary);
     }
     let some_meet = some_meets(operator, x, s, records, low, high);
-    // A present value meets the negated operator where it does not meet this one. That does not hold of a missing one, which is asked apart.
+    // A present value meets the negated operator where it does not meet this one. That need not hold of a missing one, which is asked apart.
     let some_do_not = some_meets(operator.negate(), x, s, records, low, high);
     VerdictResult::Ok(Verdict::of(met | some_meet, unmet | some_do_not))
 }

@@ -1,5 +1,5 @@
--- The opposite of a test, sets whatever their order and repeats, and a leaf by its operator and its literals. Assumes nothing.
-use mathlib.Core.Bool.{Bool, true, false, not}
+-- The opposite of a test, what a missing value meets of the two, sets whatever their order and repeats, leaves by operator and literals. Assumes nothing.
+use mathlib.Core.Bool.{Bool, true, false, not, true≢false, false≢true}
 use mathlib.Core.List.{List, [], _∷_}
 use mathlib.Core.Path.{_≡_, refl, sym, ap, _∙_}
 use Rattle.values.specs.Ascending.{elem, ascending}
@@ -78,6 +78,34 @@ module _ {A : Type 0} (by : Tests A) where
   pub meets-ascending : ((a b : A) → by .compare a b ≡ Equal → a ≡ b) → (o : operators.SetOperator) (ls : List A) (v : A)
       → meets by (set o (ascending (by .compare) ls)) v ≡ meets by (set o ls) v
   meets-ascending equal o ls v = set-members o v (ascending (by .compare) ls) ls (elem-ascending (by .compare) equal v ls)
+
+-- ---- a missing value, after 02, #106. Of Eq, NotEq, StartsWith, NotStartsWith, In and NotIn it meets one and not its opposite, as every present value does
+pub missing-opposite : (o : operators.Binary) → operators.ordered o ≡ false
+    → missingMeets (operators.one (operators.oppositeBinary o)) ≡ not (missingMeets (operators.one o))
+missing-opposite operators.lessThan h = absurd (true≢false h)
+missing-opposite operators.lessThanOrEq h = absurd (true≢false h)
+missing-opposite operators.greaterThan h = absurd (true≢false h)
+missing-opposite operators.greaterThanOrEq h = absurd (true≢false h)
+missing-opposite operators.eq h = refl
+missing-opposite operators.notEq h = refl
+missing-opposite operators.startsWith h = refl
+missing-opposite operators.notStartsWith h = refl
+
+pub missing-opposite-set : (o : operators.SetOperator) → missingMeets (operators.many (oppositeSet o)) ≡ not (missingMeets (operators.many o))
+missing-opposite-set operators.isIn = refl
+missing-opposite-set operators.notIn = refl
+
+-- of <, ≤, > and ≥ it meets none, and so neither one nor its opposite
+pub missing-unordered : (o : operators.Binary) → operators.ordered o ≡ true
+    → (missingMeets (operators.one o) ≡ false) × (missingMeets (operators.one (operators.oppositeBinary o)) ≡ false)
+missing-unordered operators.lessThan h = (refl, refl)
+missing-unordered operators.lessThanOrEq h = (refl, refl)
+missing-unordered operators.greaterThan h = (refl, refl)
+missing-unordered operators.greaterThanOrEq h = (refl, refl)
+missing-unordered operators.eq h = absurd (false≢true h)
+missing-unordered operators.notEq h = absurd (false≢true h)
+missing-unordered operators.startsWith h = absurd (false≢true h)
+missing-unordered operators.notStartsWith h = absurd (false≢true h)
 
 -- ---- a leaf by its operator and its literals
 module _ {A : Type 0} (by : Tests A) (other : A) (ls : List A) where
