@@ -1,4 +1,5 @@
-//! The holds-test a second time: document 01's rules on when a value meets a leaf, which the crate has no routine for.
+//! The holds-test a second time: document 01's rules on when a value meets a leaf, with document 02's on missing values,
+//! which the crate has no routine for.
 
 use std::cmp::Ordering;
 
@@ -9,7 +10,8 @@ use crate::types::is_number;
 /// Whether a value meets a leaf; both have been read, so literals and value are of the leaf's type.
 pub fn meets(leaf: &Leaf, value: &Value) -> bool {
     let Value::Present(content) = value else {
-        return leaf.operator == operator::IS_NULL;
+        let met = [operator::IS_NULL, operator::NOT_EQ, operator::NOT_IN, operator::NOT_STARTS_WITH];
+        return met.contains(&leaf.operator);
     };
     let order = |literal: &Vec<u8>| compare(leaf.column, content, literal);
     let begins = |literal: &Vec<u8>| !is_number(leaf.column) && content.starts_with(literal);

@@ -74,6 +74,7 @@ pub fn compare_answers() {
         values[0] = Value::Present(draw.date());
         values.push(string("abcd"));
         compared.ask(&[Asked::Row], &column_list(&OTHERS), &text, &records(&values));
+        compared.ask(&[Asked::Row], &column_list(&OTHERS), &text, &records(&vec![Value::Missing; OTHERS.len()]));
     }
     binaries(&mut compared, &mut draw);
     broken(&mut compared, &mut draw);
@@ -88,6 +89,7 @@ fn binaries(compared: &mut Compared, draw: &mut Draw) {
             let values = vec![Value::Present(content.to_vec()); BINARIES.len()];
             compared.ask(&ASKED, &list, &text, &records(&values));
         }
+        compared.ask(&ASKED, &list, &text, &records(&vec![Value::Missing; BINARIES.len()]));
     }
 }
 

@@ -88,9 +88,11 @@ impl Operator {
         }
     }
 
-    /// Whether a value meets the operator with a literal; a missing one meets none.
+    /// Whether a value meets the operator with a literal; a missing one counts as different from each.
     pub fn holds(self, value: Option<Value>, literal: Value) -> bool {
-        let Some(value) = value else { return false };
+        let Some(value) = value else {
+            return matches!(self, Operator::NotEqual | Operator::NotStartsWith);
+        };
         match self {
             Operator::Less => value < literal,
             Operator::LessOrEqual => value <= literal,
