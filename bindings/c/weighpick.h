@@ -19,7 +19,7 @@
 #define WEIGHPICK_H
 
 /* The version; bindings/rust/Cargo.toml has the same, and CHANGELOG.md says what it has. */
-#define WEIGHPICK_VERSION "0.6.0"
+#define WEIGHPICK_VERSION "0.7.0"
 
 #include <stddef.h>
 #include <stdint.h>
@@ -113,11 +113,11 @@ enum weighpick_operator {
     WEIGHPICK_GREATER_THAN = 203,       /* > */
     WEIGHPICK_GREATER_THAN_OR_EQ = 204, /* >= */
     WEIGHPICK_EQ = 205,                 /* = */
-    WEIGHPICK_NOT_EQ = 206,             /* present and not = */
+    WEIGHPICK_NOT_EQ = 206,             /* missing, or not = */
     WEIGHPICK_STARTS_WITH = 207,        /* a string or binary that starts with the literal */
-    WEIGHPICK_NOT_STARTS_WITH = 208,    /* present and not so */
+    WEIGHPICK_NOT_STARTS_WITH = 208,    /* missing, or not so */
     WEIGHPICK_IN = 301,                 /* one of the literals */
-    WEIGHPICK_NOT_IN = 302              /* present and none of them */
+    WEIGHPICK_NOT_IN = 302              /* missing, or none of them */
 };
 
 /* Column types. */

@@ -16,7 +16,7 @@ usage: filter TEXT NAME=TYPE:TRANSFORM .. -- VALUE ..     asks a filter of a row
 prints a line for the row, for its partition values, and for each question of them: 0 is yes, 1 no, every other a refusal
 as in:
   filter \"lot startswith 'ab' and grams < 300\" lot=string:truncate:4 grams=int:truncate:10 -- abcd 290
-  filter \"not day >= 31\" day=date:month -- missing";
+  filter \"lot != 'ab12'\" lot=string:truncate:4 -- missing";
 
 fn main() -> ExitCode {
     words::run(USAGE, |given| words::filter::asked(given)?.lines())

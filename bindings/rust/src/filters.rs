@@ -21,6 +21,9 @@ pub const BRACKETS: usize = 16;
 /// A leaf is a column's name, one of `<`, `<=`, `>`, `>=`, `=`, `!=` and `startswith`, and a literal: a whole number, or text in
 /// single quotes. `not` binds tightest, then `and`, then `or`. `docs/FORMAT.md` in the repository has all of the grammar.
 ///
+/// A missing value counts as different from every literal, and is neither below nor above one: it meets `!=`, under `not` also
+/// `=` and `startswith`, and none of `<`, `<=`, `>` and `>=`, under `not` or without it.
+///
 /// The text is handed to the library as it is, with every question, so that making a filter costs nothing; [`check`](Filter::check)
 /// says at once whether the library will take it. No question takes memory from the heap.
 ///
@@ -44,6 +47,9 @@ pub const BRACKETS: usize = 16;
 /// // A row of a file that is read and filtered.
 /// assert!(filter.row(&columns.row(&["ab12x".into(), Literal::Int(501).into()])?)?);
 /// assert!(!filter.row(&columns.row(&["ab12x".into(), Value::Missing])?)?);
+///
+/// let others = Filter::new(&columns, "lot != 'ab12'");
+/// assert!(others.row(&columns.row(&[Value::Missing, Literal::Int(501).into()])?)?);
 ///
 /// let other = Filter::new(&columns, "price < 300");
 /// assert_eq!(other.check(), Err(Refusal::OutsideGrammar));

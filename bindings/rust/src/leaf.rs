@@ -147,8 +147,16 @@ impl Leaf {
         Leaf { sheet }
     }
 
-    /// The leaf with the operator's negation. A present value meets one of the two and not the other; a missing value meets
-    /// neither, but IsNull.
+    /// The leaf with the operator's negation. A present value meets one of the two and not the other; so does a missing value,
+    /// which counts as different from every literal, but it meets neither of two that compare by order, nor IsNan or NotNan.
+    ///
+    /// ```
+    /// # use weighpick::*;
+    /// let [lot, grams]: [Leaf; 2] = ["string identity = \"ab12\"".parse()?, "int identity < 300".parse()?];
+    /// assert_eq!((lot.holds(&Value::Missing), lot.negate().holds(&Value::Missing)), (Ok(false), Ok(true)));
+    /// assert_eq!((grams.holds(&Value::Missing), grams.negate().holds(&Value::Missing)), (Ok(false), Ok(false)));
+    /// # Ok::<(), Error>(())
+    /// ```
     #[must_use]
     pub fn negate(&self) -> Leaf {
         let sheet = self.sheet.negate();

@@ -27,15 +27,15 @@ pub enum PredicateOperator {
     GreaterThanOrEq = 204,
     /// The literal.
     Eq = 205,
-    /// Present, and another than the literal.
+    /// Missing, or another than the literal.
     NotEq = 206,
     /// A string or binary that starts with the literal.
     StartsWith = 207,
-    /// Present, and does not start with the literal.
+    /// Missing, or does not start with the literal, as no number does.
     NotStartsWith = 208,
     /// One of the literals.
     In = 301,
-    /// Present, and none of the literals.
+    /// Missing, or none of the literals.
     NotIn = 302,
 }
 
@@ -84,7 +84,8 @@ impl PredicateOperator {
         self.number() >= PredicateOperator::In.number()
     }
 
-    /// The operator that a present value meets where it does not meet this one; it takes as many literals.
+    /// The operator that a present value meets where it does not meet this one; it takes as many literals. A missing value, too,
+    /// meets one of the two, but neither of `<` and `>=`, of `<=` and `>`, and of IsNan and NotNan.
     pub fn negate(self) -> PredicateOperator {
         use PredicateOperator::*;
         match self {

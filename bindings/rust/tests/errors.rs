@@ -2,6 +2,7 @@
 
 mod support;
 
+use support::meets::meets_missing;
 use support::sample::Random;
 use weighpick::sheet::{CONTENT, LITERALS};
 use weighpick::{
@@ -143,6 +144,14 @@ fn conversions() {
     assert_eq!(Value::from("ab"), Value::Present(Literal::string("ab")));
 }
 
+/// Of an operator and its negation a missing value meets one, but of these neither.
+fn meets_neither(operator: PredicateOperator) -> bool {
+    use PredicateOperator::{GreaterThan, GreaterThanOrEq, LessThan, LessThanOrEq};
+    use PredicateOperator::{IsNan, NotNan};
+    let ordered = [LessThan, LessThanOrEq, GreaterThan, GreaterThanOrEq];
+    ordered.contains(&operator) || [IsNan, NotNan].contains(&operator)
+}
+
 #[test]
 fn a_negation_is_met_by_the_other_present_values() {
     let mut random = Random::new(8);
@@ -157,8 +166,9 @@ fn a_negation_is_met_by_the_other_present_values() {
             match row {
                 Value::Present(_) => assert_eq!(met.map(|met| !met), other, "{leaf} of {row}"),
                 Value::Missing => {
-                    let null = |leaf: &Leaf| Ok(leaf.operator() == PredicateOperator::IsNull);
-                    assert_eq!((met, other), (null(&leaf), null(&negated)));
+                    assert_eq!(met, Ok(meets_missing(leaf.operator())), "{leaf}");
+                    assert_eq!(other, Ok(meets_missing(negated.operator())), "{negated}");
+                    assert_eq!(met == other, meets_neither(leaf.operator()), "{leaf}");
                 }
             }
         }

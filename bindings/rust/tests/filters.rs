@@ -1,6 +1,6 @@
 //! What filters are answered: of rows, and of partition values under both questions.
 
-use weighpick::{Columns, Error, Filter, Literal, Refusal, Transform, Type, Value};
+use weighpick::{Columns, Error, Filter, Literal, Pick, Refusal, Transform, Type, Value};
 
 /// Document 02's example.
 const EXAMPLE: &str = "lot startswith 'ab' and not (grams < 300 or grams = 500)";
@@ -109,29 +109,60 @@ fn words_and_brackets() -> Result<(), Error> {
 }
 
 #[test]
-fn a_missing_value_meets_no_leaf_and_no_turned_leaf() -> Result<(), Error> {
+fn a_missing_value_counts_as_different() -> Result<(), Error> {
     let columns = three();
-    for text in [
-        "a<1",
-        "a<=1",
-        "a>1",
-        "a>=1",
-        "a=1",
-        "a!=1",
-        "a startswith 1",
+    for (text, met, turned) in [
+        ("a<1", false, false),
+        ("a<=1", false, false),
+        ("a>1", false, false),
+        ("a>=1", false, false),
+        ("a=1", false, true),
+        ("a!=1", true, false),
+        ("a startswith 1", false, true),
     ] {
-        for text in [
-            text.to_string(),
-            format!("not {text}"),
-            format!("{text} or not {text}"),
+        for (text, met) in [
+            (text.to_string(), met),
+            (format!("not {text}"), turned),
+            (format!("not not {text}"), met),
+            (format!("{text} or not {text}"), met || turned),
+            (format!("{text} and not {text}"), false),
         ] {
             let filter = Filter::new(&columns, &text);
             let missing = [Value::Missing, Value::Missing, Value::Missing];
-            assert_eq!(filter.row(&columns.row(&missing)?), Ok(false), "{text}");
+            assert_eq!(filter.row(&columns.row(&missing)?), Ok(met), "{text}");
             let file = columns.partition(&missing)?;
-            assert_eq!(filter.project(&file), Ok(false), "{text}");
-            assert_eq!(filter.strict_project(&file), Ok(false), "{text}");
+            assert_eq!(filter.project(&file), Ok(met), "{text}");
+            assert_eq!(filter.strict_project(&file), Ok(met), "{text}");
         }
+    }
+    Ok(())
+}
+
+/// 02: "Bakeries asking for lots other than 'ab12' want the unlabelled sacks too."
+#[test]
+fn unlabelled_sacks() -> Result<(), Error> {
+    let columns = Columns::new([("lot", Type::String, Transform::Truncate(4))])?;
+    let (row, file) = (
+        columns.row(&[Value::Missing])?,
+        columns.partition(&[Value::Missing])?,
+    );
+    for (text, met) in [
+        ("lot != 'ab12'", true),
+        ("not lot = 'ab12'", true),
+        ("not lot startswith 'ab'", true),
+        ("not lot startswith 'ab12'", true),
+        ("not lot startswith 'ab123'", true),
+        ("lot = 'ab12'", false),
+        ("lot startswith 'ab'", false),
+        ("lot < 'ab12' or lot >= 'ab12'", false),
+    ] {
+        let filter = Filter::new(&columns, text);
+        let picked = if met { Pick::Whole } else { Pick::Skip };
+        assert_eq!(
+            (filter.row(&row), filter.pick(&file)),
+            (Ok(met), picked),
+            "{text}"
+        );
     }
     Ok(())
 }

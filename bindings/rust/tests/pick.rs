@@ -25,6 +25,26 @@ fn skip_filter_and_whole() {
 }
 
 #[test]
+fn lots_left_blank() {
+    let blank = |leaf| pick(leaf, "missing");
+    // No inclusive predicate, and a strict one that accepts them.
+    assert_eq!(blank("string truncate[4] != \"ab12\""), Ok(Pick::Whole));
+    assert_eq!(blank("int truncate[10] != 5"), Ok(Pick::Whole));
+    assert_eq!(blank("date month NOT IN (0, 31)"), Ok(Pick::Whole));
+    assert_eq!(
+        blank("string truncate[4] NOT STARTS WITH \"ab\""),
+        Ok(Pick::Whole)
+    );
+    // An inclusive predicate that accepts them, and no strict one.
+    assert_eq!(
+        blank("int truncate[10] NOT STARTS WITH 5"),
+        Ok(Pick::Filter)
+    );
+    assert_eq!(blank("string truncate[4] = \"ab12\""), Ok(Pick::Skip));
+    assert_eq!(blank("string truncate[4] IS NOT NULL"), Ok(Pick::Skip));
+}
+
+#[test]
 fn lots_kept_as_binary() {
     let after = |lot| pick("binary truncate[2] > 0x00ff01", lot);
     assert_eq!(after("binary 0x0100"), Ok(Pick::Whole));

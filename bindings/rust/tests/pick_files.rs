@@ -31,6 +31,11 @@ fn skip_filter_and_whole() {
     assert_eq!(below("int missing"), Ok(Pick::Skip));
     assert_eq!(below("int empty"), Ok(Pick::Skip));
     assert_eq!(pick("date month IS NULL", "int missing"), Ok(Pick::Whole));
+    // Missing values count as different.
+    let others = |file| pick("int truncate[10] != 5", file);
+    assert_eq!(others("int 10 to 20, missing"), Ok(Pick::Whole));
+    assert_eq!(others("int 0 to 20, missing"), Ok(Pick::Filter));
+    assert_eq!(others("int missing"), Ok(Pick::Whole));
     // Texts are never taken whole.
     let starts = |file| pick("string truncate[4] STARTS WITH \"ab\"", file);
     assert_eq!(starts("string \"ab\" to \"abcd\""), Ok(Pick::Filter));
@@ -42,11 +47,13 @@ fn without_a_predicate_and_after_a_refusal() {
     // No inclusive one: nothing is skipped, not even an empty file.
     for file in ["int 0 to 0", "int missing", "int empty"] {
         assert_eq!(pick("int void = 1", file), Ok(Pick::Filter));
-        assert_eq!(pick("int truncate[10] != 5", file), Ok(Pick::Filter));
         assert_eq!(
             pick("int truncate[10] < -2147483640", file),
             Ok(Pick::Filter)
         );
+    }
+    for file in ["int 0 to 0", "int 0 to 0, missing", "int empty"] {
+        assert_eq!(pick("int truncate[10] != 5", file), Ok(Pick::Filter));
     }
     assert_eq!(
         pick("int truncate[10] != 5", "int 10 to 20"),

@@ -164,6 +164,13 @@ fn in_words() {
         ("IS NOT NULL", "\"ab\" to \"ab\"", Read),
         ("IS NULL", "missing", Read),
         ("IS NOT NULL", "missing", Skip), // ruled out, since none is present
+        ("!= \"ab\"", "\"ab\" to \"ab\", missing", Read), // the sacks without a lot
+        ("NOT IN (\"a\", \"ab\")", "\"ab\" to \"ab\", missing", Read),
+        ("NOT STARTS WITH \"ab\"", "\"ab\" to \"abz\", missing", Read),
+        ("= \"abc\"", "\"b\" to \"c\", missing", Skip),
+        ("!= \"ab\"", "missing", Read),
+        ("< \"ab\"", "missing", Skip),
+        (">= \"ab\"", "missing", Skip),
         ("IS NULL", "empty", Skip),
         ("IN ()", "\"\" to \"b\"", Skip),
         ("NOT IN ()", "\"\" to \"b\"", Read),

@@ -49,6 +49,19 @@ fn files_of_every_kind() {
         "date month is-null",
         &[("missing", "whole"), ("0..1", "skip")],
     );
+    // Lots other than one, with sacks that have none.
+    let lots = [
+        ("ab12..ab12", "read"),
+        ("ab12..ab12,missing", "read"),
+        ("missing", "read"),
+    ];
+    picks("string truncate 4 != ab12", &lots);
+    let sevens = [
+        ("7..7", "skip"),
+        ("7..7,missing", "read"),
+        ("8..9,missing", "whole"),
+    ];
+    picks("int identity != 7", &sevens);
 }
 
 #[test]

@@ -135,6 +135,9 @@ fn the_lines_of_a_filter() {
     assert_eq!(example("ab12x 500"), lines(1, "500", 0, 1));
     assert_eq!(example("ab12x -1"), lines(1, "-10", 1, 1));
     assert_eq!(example("ab12x missing"), lines(1, "missing", 1, 1));
+    let others = "row 0\npartition 0 missing\ninclusive 0\nstrict 0\n";
+    let lot = "lot=string:truncate:4 -- missing";
+    assert_eq!(answered("lot != 'ab12'", lot), Ok(others.to_string()));
 }
 
 #[test]

@@ -1,4 +1,5 @@
-//! When a row meets a leaf, by the words of document 01 ("Holds-test") and Rust's own comparisons.
+//! When a row meets a leaf, by the words of document 01 ("Holds-test"), of 02 (#106) on missing values, and Rust's own
+//! comparisons.
 
 use std::cmp::Ordering;
 
@@ -9,7 +10,7 @@ use super::number_of;
 /// Whether a row meets a leaf.
 pub fn meets(leaf: &Leaf, row: &Value) -> bool {
     let Value::Present(value) = row else {
-        return leaf.operator() == PredicateOperator::IsNull;
+        return meets_missing(leaf.operator());
     };
     match leaf.operator() {
         PredicateOperator::IsNull | PredicateOperator::IsNan => false,
@@ -21,6 +22,12 @@ pub fn meets(leaf: &Leaf, row: &Value) -> bool {
             meets_one(operator, value, &literal)
         }
     }
+}
+
+/// 02: "a missing value meets NotEq, NotIn and NotStartsWith, numbers included, besides IsNull".
+pub fn meets_missing(operator: PredicateOperator) -> bool {
+    use PredicateOperator::{IsNull, NotEq, NotIn, NotStartsWith};
+    [NotEq, NotIn, NotStartsWith, IsNull].contains(&operator)
 }
 
 /// Whether a present value meets an operator with one literal.
