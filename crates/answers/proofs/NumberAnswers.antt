@@ -12,11 +12,10 @@ use Rattle.values.specs.Types.{layout, inType}
 use Rattle.values.specs.Words.{over}
 use Rattle.values.specs.declared.datatypes.PrimitiveType.{PrimitiveType}
 use Rattle.values.specs.declared.error.ErrorKind.{ErrorKind}
-use Rattle.expr.specs.Operators.{isIn, byArity, operatorOf}
+use Rattle.expr.specs.Operators.{byArity, operatorOf}
 use Rattle.expr.specs.laws.PredicateLaws.{operator-of}
 use Rattle.expr.specs.Predicates.{test, binary, set}
 use Rattle.expr.specs.declared.operator.PredicateOperator.{PredicateOperator}
-use Rattle.expr.specs.declared.operator.PredicateOperator.the-variants.{In}
 use Rattle.numbers.specs.code.Boundaries.{numberProjected}
 use Rattle.numbers.specs.declared.steps.NumberProjection.{NumberProjection}
 use Rattle.numbers.specs.declared.steps.NumberProjection.the-variants as number-projection
@@ -26,7 +25,7 @@ use Rattle.answers.specs.code.Settled.{Settled}
 use Rattle.answers.specs.code.Leaves.{oneWritten, NumbersIn}
 use Rattle.answers.specs.laws.SettledLaws.{settled-refused}
 use Rattle.answers.specs.laws.NumberLeafLaws.{predicate-written}
-use Rattle.answers.specs.laws.OneLiteralLaws.{takes-one}
+use Rattle.answers.specs.laws.OneLiteralLaws.{takes-one, takes-many}
 use Rattle.answers.specs.declared.answer.Answer.the-variants.{Written, Err}
 
 -- v as a local holds it
@@ -59,8 +58,8 @@ module _ (to : PrimitiveType) {p : NumberProjection} (inside : NumbersIn to p) w
         (written ∙ rw (same, ← a .1) (ap (λ q. over 0 (answerBytes q to (numberBytes (layout to) t ∷ [])) before) operator))
         refl)
 
-  module _ {t : ℤ} (is : p ≡ number-projection.Two t) where
-    two-in : NumbersIn to (number-projection.Two t)
+  module _ {o : PredicateOperator} {t : ℤ} (is : p ≡ number-projection.Two o t) where
+    two-in : NumbersIn to (number-projection.Two o t)
     two-in = rw is at inside
 
     first : seen t ≡ t
@@ -76,7 +75,12 @@ module _ (to : PrimitiveType) {p : NumberProjection} (inside : NumbersIn to p) w
     two-inside = (rw first (two-in .0), rw second (two-in .1))
 
     pub two-settled : {before after : List ℕ}
-        → after ≡ over 0 (answerBytes In to (numberBytes (layout to) (seen t) ∷ numberBytes (layout to) (seen (seen t +ℤ pos 1)) ∷ [])) before
+        → after ≡ over 0 (answerBytes o to (numberBytes (layout to) (seen t) ∷ numberBytes (layout to) (seen (seen t +ℤ pos 1)) ∷ [])) before
         → Settled (oneWritten to (numberProjected p)) before after (Written (recordSize * 3))
-    two-settled written =
-        rw is (predicate-written to (test (set isIn (t ∷ sucℤ t ∷ []))) (two-in .0, (two-in .1, tt)) (written ∙ rw (second, first)) refl)
+    two-settled {before} written =
+        let a = takes-many (byArity o) (two-in .2) in
+        let operator : o ≡ operatorOf (byArity o) = sym (operator-of o) in
+        rw (is, a .1)
+        (predicate-written to (test (set (a .0) (t ∷ sucℤ t ∷ []))) (two-in .0, (two-in .1, tt))
+        (written ∙ rw (second, first, ← a .1) (ap (λ q. over 0 (answerBytes q to (numberBytes (layout to) t ∷ numberBytes (layout to) (sucℤ t) ∷ [])) before) operator))
+        refl)

@@ -3,7 +3,6 @@ use crate::answer::Answer;
 use crate::answer::RECORD;
 use crate::leaf::Leaf;
 use expr::operator::HOLDS_LIMIT;
-use expr::operator::PredicateOperator;
 use numbers::steps::NumberProjection;
 use numbers::steps::is_lifted;
 use numbers::steps::project_number;
@@ -41,8 +40,8 @@ fn put_projection(to: PrimitiveType, p: NumberProjection, out: &mut [u8]) -> Ans
             put_one_number(out, operator, to, t);
             Answer::Written(RECORD * 2)
         }
-        NumberProjection::Two(t) => {
-            put_two_numbers(out, PredicateOperator::In, to, t, t + 1);
+        NumberProjection::Two(operator, t) => {
+            put_two_numbers(out, operator, to, t, t + 1);
             Answer::Written(RECORD * 3)
         }
     }
@@ -78,6 +77,7 @@ fn lifts_set(question: Question, column: PrimitiveType, transform: Transform) ->
     match question {
         Question::Inclusive => is_lifted(column, transform),
         Question::Strict => false,
+        Question::Older => is_lifted(column, transform),
     }
 }
 

@@ -23,7 +23,8 @@ ghost use Rattle.partition.specs.ResultType.{resultType};
 ghost use Rattle.expr.specs.Operators.{byArity};
 ghost use Rattle.expr.specs.code.OperatorAnswers.{takesNone, takesOne, takesMany};
 ghost use Rattle.answers.specs.code.Settled.{Settled};
-ghost use Rattle.answers.specs.code.Leaves.{projectedAt, steps, bytesLeafAt, keeps, Ready, ReadyLeaf};
+ghost use Rattle.projection.specs.declared.question.Question.the-variants.{Inclusive, Strict};
+ghost use Rattle.answers.specs.code.Leaves.{projectedAt, steps, bytesLeafAt, keptBy, keeps, Ready, ReadyLeaf};
 
 // IsNull, NotNull, IsNan and NotNan pass through unchanged.
 fn project_unary(x: Leaf, s: &[u8], records: &[u16], out: &mut [u8]) -> Answer
@@ -50,7 +51,27 @@ fn project_binary(x: Leaf, s: &[u8], records: &[u16], out: &mut [u8]) -> Answer
     number::project_one(x, s, records, out)
 }
 
-// Whether a set has a projection: inclusive keeps In, strict NotIn, and Identity both.
+fn is_in(operator: PredicateOperator) -> bool
+    ensures { λ r. ⌜ r ≡ keptBy Inclusive (byArity operator) ⌝ }
+{
+    if let PredicateOperator::In = operator {
+        true
+    } else {
+        false
+    }
+}
+
+fn is_not_in(operator: PredicateOperator) -> bool
+    ensures { λ r. ⌜ r ≡ keptBy Strict (byArity operator) ⌝ }
+{
+    if let PredicateOperator::NotIn = operator {
+        true
+    } else {
+        false
+    }
+}
+
+// Whether a set has a projection: inclusive keeps In, strict NotIn, for older files too, and Identity both.
 fn keeps_set(question: Question, operator: PredicateOperator, transform: Transform) -> bool
     ensures { λ r. ⌜ r ≡ keeps transform question (byArity operator) ⌝ }
 {
@@ -58,20 +79,9 @@ fn keeps_set(question: Question, operator: PredicateOperator, transform: Transfo
         return true;
     }
     match question {
-        Question::Inclusive => {
-            if let PredicateOperator::In = operator {
-                true
-            } else {
-                false
-            }
-        }
-        Question::Strict => {
-            if let PredicateOperator::NotIn = operator {
-                true
-            } else {
-                false
-            }
-        }
+        Question::Inclusive => is_in(operator),
+        Question::Strict => is_not_in(operator),
+        Question::Older => is_not_in(operator),
     }
 }
 

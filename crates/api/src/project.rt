@@ -8,7 +8,7 @@ use sheet::records::RECORD_SIZE;
 use sheet::sheet::SheetResult;
 use sheet::sheet::read_sheet;
 ghost use mathlib.Core.Path.{_≡_};
-ghost use Rattle.projection.specs.declared.question.Question.the-variants.{Inclusive, Strict};
+ghost use Rattle.projection.specs.declared.question.Question.the-variants.{Inclusive, Strict, Older};
 ghost use Rattle.api.specs.Routines.{projectAnswer, projectLeaves};
 
 // The bytes of the longest answer sheet.
@@ -45,4 +45,12 @@ pub fn strict_project(sheet: &[u8], out: &mut [u8]) -> Answer
     ensures buffer { λ _. ⌜ now (out .exit) ≡ projectLeaves Strict (now (sheet .entry)) (now (out .entry)) ⌝ }
 {
     project_sheet(Question::Strict, sheet, out)
+}
+
+// The same for older files, where a row with a negative partition value may be filed under the next one.
+pub fn strict_project_older(sheet: &[u8], out: &mut [u8]) -> Answer
+    ensures number { λ r. ⌜ r ≡ projectAnswer Older (now (sheet .entry)) (now (out .entry)) ⌝ }
+    ensures buffer { λ _. ⌜ now (out .exit) ≡ projectLeaves Older (now (sheet .entry)) (now (out .entry)) ⌝ }
+{
+    project_sheet(Question::Older, sheet, out)
 }

@@ -10,7 +10,7 @@ use Rattle.expr.specs.Holds.{Tests, holds}
 use Rattle.expr.specs.Predicates.{Predicate, binary, test}
 use Rattle.projection.specs.Steps.{Projected, some, none}
 use Rattle.projection.specs.declared.question.Question.{Question}
-use Rattle.projection.specs.declared.question.Question.the-variants.{Inclusive, Strict}
+use Rattle.projection.specs.declared.question.Question.the-variants.{Inclusive, Strict, Older}
 use Rattle.sheet.specs.Sheets.{Sheet}
 use Rattle.sheet.specs.Values.{eachLiteral, mapRow}
 use Rattle.answers.specs.Kinds.{Kind, byKind}
@@ -40,6 +40,8 @@ rowAnswer cells l = testedSheet (sheetOf l) (rowAt cells (l .place))
 abbrev pub withoutPredicate : Question → Bool
 withoutPredicate Inclusive = true
 withoutPredicate Strict = false
+-- never met: "filters .. keep two questions"
+withoutPredicate Older = false
 
 abbrev pub accepted : {B : Type 0} → Tests B → Question → Projected (Predicate B) → Row B → Bool
 accepted parts question none p = withoutPredicate question

@@ -3,11 +3,10 @@ use projection::question::Question;
 ghost use mathlib.Core.Path.{_≡_};
 ghost use Rattle.ask.specs.LeafAnswers.{withoutPredicate};
 
-// Of a row, or of a partition value under either question.
+// Of a row, or of a partition value under a question.
 pub enum Asked {
     Row,
-    Inclusive,
-    Strict,
+    Part(Question),
 }
 
 // Whether partition values are accepted where a leaf has no predicate.
@@ -17,5 +16,6 @@ pub fn without_predicate(question: Question) -> bool
     match question {
         Question::Inclusive => true,
         Question::Strict => false,
+        Question::Older => false,
     }
 }

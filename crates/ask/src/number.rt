@@ -24,15 +24,16 @@ ghost use Rattle.values.specs.Outcomes.{ok, row};
 ghost use Rattle.values.specs.Types.{layout, fits, inType};
 ghost use Rattle.values.specs.declared.datatypes.PrimitiveType.the-variants.{Long};
 ghost use Rattle.partition.specs.ResultType.{resultType};
-ghost use Rattle.expr.specs.Holds.{numberTests, holds};
+ghost use Rattle.expr.specs.Holds.{numberTests, meets};
 ghost use Rattle.expr.specs.Operators.{isIn, byArity};
-ghost use Rattle.expr.specs.Predicates.{test, set};
-ghost use Rattle.expr.specs.code.OperatorAnswers.{takesOne};
+ghost use Rattle.expr.specs.Predicates.{set};
+ghost use Rattle.expr.specs.code.OperatorAnswers.{takesOne, takesMany};
 ghost use Rattle.numbers.specs.code.Boundaries.{numberProjected};
 ghost use Rattle.answers.specs.code.Leaves.{NumbersIn};
 ghost use Rattle.meets.specs.Tested.{heldAs};
 ghost use Rattle.columns.specs.Cells.{typeOr};
-ghost use Rattle.ask.specs.code.Askings.{ofPart, typeAsked, numberRow, numberAnswer, NumberSized, meetsRow, stepHeld};
+ghost use Rattle.ask.specs.declared.asked.Asked.the-variants.{Part};
+ghost use Rattle.ask.specs.code.Askings.{typeAsked, numberRow, numberAnswer, NumberSized, meetsRow, meetsTwo, stepHeld};
 
 // Whether a number, which may be missing, meets an operator with a literal.
 fn test_one(operator: PredicateOperator, l: i64, present: bool, content: &[u8]) -> Held
@@ -46,20 +47,33 @@ fn test_one(operator: PredicateOperator, l: i64, present: bool, content: &[u8]) 
     }
 }
 
-// Whether a number, which may be missing, is t or the one above it.
-fn test_two(t: i64, present: bool, content: &[u8]) -> Held
+// Whether a number is t or the one above it.
+fn is_either(v: i64, t: i64) -> bool
+    requires { ⌜ inType Long (sucℤ t) ≡ true ⌝ }
+    ensures { λ r. ⌜ r ≡ meets numberTests (set isIn (t ∷ sucℤ t ∷ [])) v ⌝ }
+{
+    if number_meets(PredicateOperator::Eq, v, t) {
+        return true;
+    }
+    number_meets(PredicateOperator::Eq, v, t + 1)
+}
+
+// Whether a number, which may be missing, meets In or NotIn of t and the one above it.
+fn test_two(operator: PredicateOperator, t: i64, present: bool, content: &[u8]) -> Held
     requires { ⌜ NumberSized present (now content) ⌝ }
     requires { ⌜ inType Long (sucℤ t) ≡ true ⌝ }
-    ensures { λ r. ⌜ r ≡ heldAs (ok (holds numberTests (test (set isIn (t ∷ sucℤ t ∷ []))) (numberRow (row present (now (content .entry)))))) ⌝ }
+    requires { ⌜ takesMany (byArity operator) ≡ true ⌝ }
+    ensures { λ r. ⌜ r ≡ heldAs (ok (meetsTwo (byArity operator) t (numberRow (row present (now (content .entry)))))) ⌝ }
 {
     if !present {
-        return Held::No;
+        return answered(missing_holds(operator));
     }
-    let v = number_in(content);
-    if number_meets(PredicateOperator::Eq, v, t) {
-        return Held::Yes;
+    let found = is_either(number_in(content), t);
+    if let PredicateOperator::In = operator {
+        answered(found)
+    } else {
+        answered(!found)
     }
-    answered(number_meets(PredicateOperator::Eq, v, t + 1))
 }
 
 // A partition value, which may be missing, against what the leaf came to.
@@ -72,7 +86,7 @@ fn test_projected(question: Question, p: NumberProjection, present: bool, conten
         NumberProjection::None => answered(without_predicate(question)),
         NumberProjection::Err(e) => Held::Err(e),
         NumberProjection::One(operator, t) => test_one(operator, t, present, content),
-        NumberProjection::Two(t) => test_two(t, present, content),
+        NumberProjection::Two(operator, t) => test_two(operator, t, present, content),
     }
 }
 
@@ -89,7 +103,7 @@ fn ask_part(
     requires { ⌜ takesOne (byArity operator) ≡ true ⌝ }
     requires { ⌜ inType column l ≡ true ⌝ }
     requires { ⌜ (present ≡ true → fits (layout (typeOr column (resultType transform column))) (length (now content)) ≡ true) ⌝ }
-    ensures { λ r. ⌜ r ≡ heldAs (numberAnswer (ofPart question) column transform (byArity operator) l (row present (now (content .entry)))) ⌝ }
+    ensures { λ r. ⌜ r ≡ heldAs (numberAnswer (Part question) column transform (byArity operator) l (row present (now (content .entry)))) ⌝ }
 {
     match result_type(transform, column) {
         TypeResult::Err(e) => return Held::Err(e),
@@ -123,8 +137,7 @@ pub fn ask_number(
 {
     let question = match asked {
         Asked::Row => return test_one(operator, l, present, content),
-        Asked::Inclusive => Question::Inclusive,
-        Asked::Strict => Question::Strict,
+        Asked::Part(question) => question,
     };
     ask_part(question, column, transform, operator, l, present, content)
 }

@@ -24,7 +24,8 @@ ghost use Rattle.expr.specs.code.OperatorAnswers.{takesOne};
 ghost use Rattle.strings.specs.code.Prefixes.{bytesProjected, NoLonger, OneLiteral};
 ghost use Rattle.answers.specs.code.Leaves.{BytesColumn};
 ghost use Rattle.meets.specs.Tested.{heldAs};
-ghost use Rattle.ask.specs.code.Askings.{ofPart, textAnswer, meetsRow, stepHeld};
+ghost use Rattle.ask.specs.declared.asked.Asked.the-variants.{Part};
+ghost use Rattle.ask.specs.code.Askings.{textAnswer, meetsRow, stepHeld};
 
 // Whether a byte string, which may be missing, meets an operator with a literal.
 fn test_one(operator: PredicateOperator, l: &[u8], present: bool, content: &[u8]) -> Held
@@ -67,7 +68,7 @@ fn ask_part(
 ) -> Held
     requires { ⌜ takesOne (byArity operator) ≡ true ⌝ }
     requires { ⌜ BytesColumn column ⌝ }
-    ensures { λ r. ⌜ r ≡ heldAs (textAnswer (ofPart question) column transform (byArity operator) (now (l .entry)) (row present (now (content .entry)))) ⌝ }
+    ensures { λ r. ⌜ r ≡ heldAs (textAnswer (Part question) column transform (byArity operator) (now (l .entry)) (row present (now (content .entry)))) ⌝ }
 {
     match result_type(transform, column) {
         TypeResult::Err(e) => return Held::Err(e),
@@ -100,8 +101,7 @@ pub fn ask_text(
 {
     let question = match asked {
         Asked::Row => return test_one(operator, l, present, content),
-        Asked::Inclusive => Question::Inclusive,
-        Asked::Strict => Question::Strict,
+        Asked::Part(question) => question,
     };
     ask_part(question, column, transform, operator, l, present, content)
 }

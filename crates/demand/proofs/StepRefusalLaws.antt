@@ -35,7 +35,7 @@ use Rattle.projection.specs.Projection.{through, byTransform, numberUnder, numb
 use Rattle.projection.specs.Steps.{Projected, valueIn, withLiteral, withEach}
 use Rattle.projection.specs.laws.ProjectionLaws.{bySteps}
 use Rattle.projection.specs.declared.question.Question.{Question}
-use Rattle.projection.specs.declared.question.Question.the-variants.{Inclusive, Strict}
+use Rattle.projection.specs.declared.question.Question.the-variants.{Inclusive, Strict, Older}
 use Rattle.sheet.specs.laws.RefusalLaws.{Only, only-ok, only-err, only-bind, only-need, only-cond, only-each}
 use Rattle.answers.specs.laws.BytesLeafLaws.{no-time, not-listed}
 
@@ -207,6 +207,9 @@ module _ {P : ErrorKind → Type 0} (six : P DataInvalid) (eight : P Overflow) w
         let T = numberUnder column transform in
         only-bind (inclusiveNumber column T x) _ (inclusive-numbers column T (numbers-under h) x) (λ q. only-ok)
     number-steps Strict h x = strict-numbers column (numberUnder column transform) (numbers-under h) x
+    number-steps Older h x =
+        let T = numberUnder column transform in
+        only-bind (strictNumber column T x) _ (strict-numbers column T (numbers-under h) x) (λ q. only-ok)
 
     pub numbers-refused : (question : Question) (leaf : Predicate ℤ) → Only P (projectNumbers question column transform leaf)
     unfolding projectNumbers
@@ -220,6 +223,7 @@ module _ {P : ErrorKind → Type 0} (six : P DataInvalid) (eight : P Overflow) w
       byte-steps : (question : Question) → bySteps transform ≡ true → (x : Test (List ℕ)) → Only P (bytesStep column transform question x)
       byte-steps Inclusive h x = inclusive-bytes (bytesUnder column transform) (lengthOf column) (widthOf transform) (bytes-under h) column x
       byte-steps Strict h x = strict-bytes (bytesUnder column transform) (lengthOf column) (widthOf transform) (bytes-under h) x
+      byte-steps Older h x = strict-bytes (bytesUnder column transform) (lengthOf column) (widthOf transform) (bytes-under h) x
 
       pub bytes-refused : (question : Question) (leaf : Predicate (List ℕ)) → Only P (projectBytes question column transform leaf)
       unfolding projectBytes

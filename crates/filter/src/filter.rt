@@ -7,6 +7,7 @@ use columns::list::count_columns;
 use leaves::symbol::SymbolKind;
 use meets::held::Held;
 use parse::parse::parse_or;
+use projection::question::Question;
 use values::error::ErrorKind;
 ghost use mathlib.Core.Path.{_≡_};
 ghost use Rattle.meets.specs.Tested.{heldAs};
@@ -27,8 +28,7 @@ fn side_of(asked: Asked) -> Side
 {
     match asked {
         Asked::Row => Side::Rows,
-        Asked::Inclusive => Side::Parts,
-        Asked::Strict => Side::Parts,
+        Asked::Part(_) => Side::Parts,
     }
 }
 
@@ -80,12 +80,12 @@ pub fn filter_row(columns: &[u8], text: &[u8], values: &[u8]) -> Held
 pub fn filter_project(columns: &[u8], text: &[u8], values: &[u8]) -> Held
     ensures { λ r. ⌜ r ≡ heldAs (filterParts question.Inclusive (now (columns .entry)) (now (text .entry)) (now (values .entry))) ⌝ }
 {
-    filter(Asked::Inclusive, columns, text, values)
+    filter(Asked::Part(Question::Inclusive), columns, text, values)
 }
 
 // Whether all of them do.
 pub fn filter_strict_project(columns: &[u8], text: &[u8], values: &[u8]) -> Held
     ensures { λ r. ⌜ r ≡ heldAs (filterParts question.Strict (now (columns .entry)) (now (text .entry)) (now (values .entry))) ⌝ }
 {
-    filter(Asked::Strict, columns, text, values)
+    filter(Asked::Part(Question::Strict), columns, text, values)
 }

@@ -29,17 +29,17 @@ use Rattle.expr.specs.Operators.{Operator, byArity}
 use Rattle.expr.specs.code.OperatorAnswers.{takesOne}
 use Rattle.expr.specs.Predicates.{set}
 use Rattle.expr.specs.declared.operator.PredicateOperator.{PredicateOperator}
-use Rattle.expr.specs.declared.operator.PredicateOperator.the-variants.{LessThan, LessThanOrEq, GreaterThan, GreaterThanOrEq, Eq}
+use Rattle.expr.specs.declared.operator.PredicateOperator.the-variants.{LessThan, LessThanOrEq, GreaterThan, GreaterThanOrEq, Eq, NotEq}
 use Rattle.projection.specs.code.OneLiteral.{oneTest}
-use Rattle.numbers.specs.code.Boundaries.{numberLeaf, neighbour, inclusiveBoundary, strictBoundary, atBoundary, OneAt, numberProjected}
-use Rattle.numbers.specs.laws.BoundaryLaws.{inclusive-at, strict-at}
-use Rattle.projection.specs.Lifting.{lifted, lift}
-use Rattle.projection.specs.Projection.{liftedBy, numberUnder}
+use Rattle.numbers.specs.code.Boundaries.{numberLeaf, neighbour, inclusiveBoundary, strictBoundary, raise, raisedBy, atBoundary, OneAt, numberProjected}
+use Rattle.numbers.specs.laws.BoundaryLaws.{inclusive-at, strict-at, older-at}
+use Rattle.projection.specs.Lifting.{lifted}
+use Rattle.projection.specs.Projection.{numberUnder}
 use Rattle.projection.specs.Steps.{some, mapped, valueIn}
 use Rattle.numbers.specs.declared.steps.Boundary.{Boundary}
 use Rattle.numbers.specs.declared.steps.Boundary.the-variants as boundary
 use Rattle.numbers.specs.declared.steps.NumberProjection.{NumberProjection}
-use Rattle.projection.specs.declared.question.Question.the-variants.{Inclusive, Strict}
+use Rattle.projection.specs.declared.question.Question.the-variants.{Inclusive, Strict, Older}
 
 -- v as a local holds it: `seen v` is v where 64 bits hold v
 abbrev pub seen : ℤ → ℤ
@@ -97,17 +97,17 @@ module _ (column : PrimitiveType) (transform : Transform) {b : Boundary} (lifts 
 
   module _ {o : PredicateOperator} {l : ℤ} (is : b ≡ boundary.At o l) (f : SFits w64 l) {r : NumberResult}
       (d : r ≡ numberResult (transformNumber column transform (seen l))) where
-    at-literal : atBoundary lifts (numberUnder column transform) b ≡ (literalIn r >>= λ t. ok (liftedBy lifts (oneTest (byArity o) t)))
+    at-literal : atBoundary lifts (numberUnder column transform) b ≡ (literalIn r >>= λ t. ok (raisedBy lifts (oneTest (byArity o) t)))
     at-literal =
         rw is
-        (ap (λ x. x >>= λ t. ok (liftedBy lifts (oneTest (byArity o) t)))
+        (ap (λ x. x >>= λ t. ok (raisedBy lifts (oneTest (byArity o) t)))
         (literal-is (transformNumber column transform l) ∙ ap literalIn (sym (rw (back f) at d))))
 
     pub literal-missing : r ≡ number-result.Missing → err FeatureUnsupported ≡ atBoundary lifts (numberUnder column transform) b
     literal-missing e = rw (at-literal, e)
 
     pub literal-lifted : {t : ℤ} (q : NumberProjection) → r ≡ number-result.Value t → SFits w64 t → lifts ≡ true
-        → numberProjected q ≡ ok (mapped lift (oneTest (byArity o) (seen t))) → numberProjected q ≡ atBoundary lifts (numberUnder column transform) b
+        → numberProjected q ≡ ok (mapped raise (oneTest (byArity o) (seen t))) → numberProjected q ≡ atBoundary lifts (numberUnder column transform) b
     literal-lifted q e g h k = k ∙ rw (at-literal, e, h, back g)
 
     pub literal-plain : {t : ℤ} → r ≡ number-result.Value t → SFits w64 t → lifts ≡ false
@@ -139,35 +139,45 @@ negative (pos n) h = let z : ⊥ = omega ints in absurd z
 negative (negsuc n) h = (n, refl)
 
 -- a number from 0 on stays as it is
-kept : (a : Operator) (t : ℤ) → pos 0 ≤ℤ t → oneTest a t ≡ mapped lift (oneTest a t)
+kept : (a : Operator) (t : ℤ) → pos 0 ≤ℤ t → oneTest a t ≡ mapped raise (oneTest a t)
 kept (operators.none o) t h = refl
 kept (operators.one operators.lessThan) t h = refl
 kept (operators.one operators.lessThanOrEq) (pos n) h = refl
 kept (operators.one operators.lessThanOrEq) (negsuc n) h = absurd (h .le)
-kept (operators.one operators.greaterThan) t h = refl
+kept (operators.one operators.greaterThan) (pos n) h = refl
+kept (operators.one operators.greaterThan) (negsuc n) h = absurd (h .le)
 kept (operators.one operators.greaterThanOrEq) t h = refl
 kept (operators.one operators.eq) (pos n) h = refl
 kept (operators.one operators.eq) (negsuc n) h = absurd (h .le)
-kept (operators.one operators.notEq) t h = refl
+kept (operators.one operators.notEq) (pos n) h = refl
+kept (operators.one operators.notEq) (negsuc n) h = absurd (h .le)
 kept (operators.one operators.startsWith) t h = refl
 kept (operators.one operators.notStartsWith) t h = refl
 kept (operators.many o) t h = refl
 
 module _ (o : PredicateOperator) (t : ℤ) (f : SFits w64 t) where
   pub lifted-most : o ≡ LessThanOrEq → t <ℤ pos 0 → SFits w64 (t +ℤ pos 1)
-      → ok (oneTest (byArity o) (seen (seen t +ℤ pos 1))) ≡ ok (mapped lift (oneTest (byArity o) t))
+      → ok (oneTest (byArity o) (seen (seen t +ℤ pos 1))) ≡ ok (mapped raise (oneTest (byArity o) t))
   lifted-most is h g = rw (back f, back g, is, +ℤ-one t, negative t h .1)
 
   pub lifted-equal : o ≡ Eq → t <ℤ pos 0
-      → ok (some (set operators.isIn (seen t ∷ sucℤ (seen t) ∷ []))) ≡ ok (mapped lift (oneTest (byArity o) t))
+      → ok (some (set operators.isIn (seen t ∷ sucℤ (seen t) ∷ []))) ≡ ok (mapped raise (oneTest (byArity o) t))
   lifted-equal is h = rw (back f, is, negative t h .1)
 
-  pub lifted-other : OneOf (map position (but (LessThanOrEq ∷ Eq ∷ []))) (position o)
-      → ok (oneTest (byArity o) (seen t)) ≡ ok (mapped lift (oneTest (byArity o) t))
-  lifted-other m =
-      rw (back f) (agree (λ p. ok (oneTest (byArity p) t)) (λ p. ok (mapped lift (oneTest (byArity p) t))) (but (LessThanOrEq ∷ Eq ∷ [])) o m refl)
+  pub raised-greater : o ≡ GreaterThan → t <ℤ pos 0 → SFits w64 (t +ℤ pos 1)
+      → ok (oneTest (byArity o) (seen (seen t +ℤ pos 1))) ≡ ok (mapped raise (oneTest (byArity o) t))
+  raised-greater is h g = rw (back f, back g, is, +ℤ-one t, negative t h .1)
 
-  pub lifted-kept : pos 0 ≤ℤ t → ok (oneTest (byArity o) (seen t)) ≡ ok (mapped lift (oneTest (byArity o) t))
+  pub raised-not-equal : o ≡ NotEq → t <ℤ pos 0
+      → ok (some (set operators.notIn (seen t ∷ sucℤ (seen t) ∷ []))) ≡ ok (mapped raise (oneTest (byArity o) t))
+  raised-not-equal is h = rw (back f, is, negative t h .1)
+
+  pub lifted-other : OneOf (map position (but (LessThanOrEq ∷ Eq ∷ GreaterThan ∷ NotEq ∷ []))) (position o)
+      → ok (oneTest (byArity o) (seen t)) ≡ ok (mapped raise (oneTest (byArity o) t))
+  lifted-other m =
+      rw (back f) (agree (λ p. ok (oneTest (byArity p) t)) (λ p. ok (mapped raise (oneTest (byArity p) t))) (but (LessThanOrEq ∷ Eq ∷ GreaterThan ∷ NotEq ∷ [])) o m refl)
+
+  pub lifted-kept : pos 0 ≤ℤ t → ok (oneTest (byArity o) (seen t)) ≡ ok (mapped raise (oneTest (byArity o) t))
   lifted-kept h = rw (back f) (ap ok (kept (byArity o) t h))
 
 -- ---- a leaf
@@ -220,3 +230,7 @@ module _ (column : PrimitiveType) (transform : Transform) (o : PredicateOperator
   pub strict-leaf : numberProjected p ≡ atBoundary false (numberUnder column transform) b → b ≡ strictBoundary column (byArity o) (seen l)
       → numberProjected p ≡ numberLeaf Strict column transform (byArity o) l
   strict-leaf d is = d ∙ rw (is, back f) (sym (strict-at column transform (byArity o) l))
+
+  pub older-leaf : (lifts : Bool) → numberProjected p ≡ atBoundary lifts (numberUnder column transform) b → lifts ≡ lifted column transform
+      → b ≡ strictBoundary column (byArity o) (seen l) → numberProjected p ≡ numberLeaf Older column transform (byArity o) l
+  older-leaf lifts d told is = d ∙ rw (told, is, back f) (sym (older-at column transform (byArity o) l))

@@ -14,12 +14,12 @@ ghost use Rattle.values.specs.Types.{inType, sameType};
 ghost use Rattle.values.specs.declared.datatypes.PrimitiveType.the-variants.{Timestamp};
 ghost use Rattle.expr.specs.Operators.{byArity};
 ghost use Rattle.expr.specs.code.OperatorAnswers.{takesOne};
-ghost use Rattle.projection.specs.Lifting.{lifted, lift};
+ghost use Rattle.projection.specs.Lifting.{lifted};
 ghost use Rattle.projection.specs.Projection.{numberUnder};
 ghost use Rattle.projection.specs.Steps.{mapped};
 ghost use Rattle.projection.specs.code.OneLiteral.{oneTest};
-ghost use Rattle.numbers.specs.code.Boundaries.{numberLeaf, neighbour, inclusiveBoundary, strictBoundary, atBoundary, numberProjected, OneAt, OneIn};
-ghost use Rattle.projection.specs.declared.question.Question.the-variants.{Inclusive, Strict};
+ghost use Rattle.numbers.specs.code.Boundaries.{numberLeaf, neighbour, inclusiveBoundary, strictBoundary, raise, atBoundary, numberProjected, OneAt, OneIn};
+ghost use Rattle.projection.specs.declared.question.Question.the-variants.{Inclusive, Strict, Older};
 
 // The operator that a row of the table has, and the literal that is to be transformed: none where the row has no predicate.
 pub enum Boundary {
@@ -28,11 +28,11 @@ pub enum Boundary {
     Err(ErrorKind),
 }
 
-// What a leaf with one number comes to: an operator with one number, In of a number and the one above it, or none.
+// What a leaf with one number comes to: an operator with one number, In or NotIn of a number and the one above it, or none.
 pub enum NumberProjection {
     None,
     One(PredicateOperator, i64),
-    Two(i64),
+    Two(PredicateOperator, i64),
     Err(ErrorKind),
 }
 
@@ -133,17 +133,20 @@ pub fn is_lifted(column: PrimitiveType, transform: Transform) -> bool
     }
 }
 
-// Lifting: with a negative number, ≤ uses the one above, and Eq becomes In of both.
+// Lifting: with a negative number, ≤ uses the one above, and Eq becomes In of both. For older files so do > and NotEq, which becomes NotIn: no operator is of
+// both.
 fn adjust_time_projection(operator: PredicateOperator, t: i64) -> NumberProjection
     requires { ⌜ takesOne (byArity operator) ≡ true ⌝ }
-    ensures projected { λ r. ⌜ numberProjected r ≡ ok (mapped lift (oneTest (byArity operator) t)) ⌝ }
+    ensures projected { λ r. ⌜ numberProjected r ≡ ok (mapped raise (oneTest (byArity operator) t)) ⌝ }
     ensures one { λ r. ⌜ OneIn r ⌝ }
 {
     if t < 0 {
         let above = t + 1;
         match operator {
             PredicateOperator::LessThanOrEq => NumberProjection::One(operator, above),
-            PredicateOperator::Eq => NumberProjection::Two(t),
+            PredicateOperator::Eq => NumberProjection::Two(PredicateOperator::In, t),
+            PredicateOperator::GreaterThan => NumberProjection::One(operator, above),
+            PredicateOperator::NotEq => NumberProjection::Two(PredicateOperator::NotIn, t),
             _ => NumberProjection::One(operator, t),
         }
     } else {
@@ -209,7 +212,22 @@ fn truncate_number_strict(
     project_boundary(column, transform, boundary, false)
 }
 
-// Either projection of a leaf with one number, which is of the column's type.
+// The strict projection for older files.
+fn truncate_number_older(
+    column: PrimitiveType,
+    transform: Transform,
+    operator: PredicateOperator,
+    l: i64,
+) -> NumberProjection
+    requires { ⌜ inType column l ≡ true ⌝ }
+    ensures projected { λ r. ⌜ numberProjected r ≡ numberLeaf Older column transform (byArity operator) l ⌝ }
+    ensures one { λ r. ⌜ OneIn r ⌝ }
+{
+    let boundary = strict_boundary(column, operator, l);
+    project_boundary(column, transform, boundary, is_lifted(column, transform))
+}
+
+// The projection of a leaf with one number, which is of the column's type.
 pub fn project_number(
     question: Question,
     column: PrimitiveType,
@@ -226,5 +244,6 @@ pub fn project_number(
             project_binary_with_adjusted_boundary(column, transform, operator, l)
         }
         Question::Strict => truncate_number_strict(column, transform, operator, l),
+        Question::Older => truncate_number_older(column, transform, operator, l),
     }
 }

@@ -85,8 +85,7 @@ module _ {cs : List Column} {s : List ℕ} {l : Leaf} {x : declared.Leaf} (is : 
 -- the type of a value, as it is asked
 type-asked : (a : Asked) (d : Column) → typeOf (sideFor a) d ≡ typeAsked a (d .head .column) (d .head .transform)
 type-asked asked.Row d = refl
-type-asked asked.Inclusive d = refl
-type-asked asked.Strict d = refl
+type-asked (asked.Part question) d = refl
 
 -- ---- the value at a leaf's place
 module _ (a : Asked) (c v s : List ℕ) (values : ValuesRead a c v s) (l : Leaf) (x : declared.Leaf) (is : IsLeaf (columnsIn c) s l x) where

@@ -48,6 +48,34 @@ lift (binary notStartsWith t) = binary notStartsWith t
 lift (set isIn ts) = set isIn (ascending compareNumbers (withNexts ts))
 lift (set notIn ts) = set notIn ts
 
+-- 02, #107: "the strict answer, but a bound after > rises by one where it is negative, NotEq with a negative value becomes NotIn of it and the next, and NotIn
+-- gains the next of each negative value"
+abbrev pub older : Test ℤ → Test ℤ
+older (binary lessThan t) = binary lessThan t
+older (binary lessThanOrEq t) = binary lessThanOrEq t
+older (binary greaterThan (pos n)) = binary greaterThan (pos n)
+older (binary greaterThan (negsuc n)) = binary greaterThan (sucℤ (negsuc n))
+older (binary greaterThanOrEq t) = binary greaterThanOrEq t
+older (binary eq t) = binary eq t
+older (binary notEq (pos n)) = binary notEq (pos n)
+older (binary notEq (negsuc n)) = set notIn (withNext (negsuc n) [])
+older (binary startsWith t) = binary startsWith t
+older (binary notStartsWith t) = binary notStartsWith t
+older (set isIn ts) = set isIn ts
+older (set notIn ts) = set notIn (ascending compareNumbers (withNexts ts))
+
+-- "For other transforms it equals strict"
+abbrev pub olderIf : Bool → Test ℤ → Test ℤ
+olderIf true q = older q
+olderIf false q = q
+
+-- NotEq −1 becomes NotIn of −1 and 0; > −1 becomes > 0, and > 0 stays
+not-equal-older : older (binary notEq (negsuc 0)) ≡ set notIn (negsuc 0 ∷ pos 0 ∷ [])
+not-equal-older = refl
+
+greater-older : (older (binary greaterThan (negsuc 0)) ≡ binary greaterThan (pos 0)) × (older (binary greaterThan (pos 0)) ≡ binary greaterThan (pos 0))
+greater-older = (refl, refl)
+
 -- Eq −1 becomes In of −1 and 0
 eq-lifted : lift (binary eq (negsuc 0)) ≡ set isIn (negsuc 0 ∷ pos 0 ∷ [])
 eq-lifted = refl

@@ -19,9 +19,9 @@ use Rattle.values.specs.declared.transform.Transform.the-variants.{Identity, Tr
 use Rattle.partition.specs.Partition.{transformNumber, transformBytes}
 use Rattle.expr.specs.Predicates.{Test, binary, set, Predicate, unary, test}
 use Rattle.projection.specs.declared.question.Question.{Question}
-use Rattle.projection.specs.declared.question.Question.the-variants.{Inclusive, Strict}
+use Rattle.projection.specs.declared.question.Question.the-variants.{Inclusive, Strict, Older}
 use Rattle.projection.specs.ByteSteps.{Step, inclusiveBytes, strictBytes}
-use Rattle.projection.specs.Lifting.{lifted, lift}
+use Rattle.projection.specs.Lifting.{lifted, lift, olderIf}
 use Rattle.projection.specs.NumberSteps.{inclusiveNumber, strictNumber}
 use Rattle.projection.specs.Steps.{Projected, some, none, mapped, literalUnder}
 
@@ -66,6 +66,9 @@ module _ (column : PrimitiveType) (transform : Transform) where
     q ← inclusiveNumber column numberUnder t
     ok (liftedBy (lifted column transform) q)
   numberStep Strict t = strictNumber column numberUnder t
+  numberStep Older t = do
+    q ← strictNumber column numberUnder t
+    ok (mapped (olderIf (lifted column transform)) q)
 
 unfoldable pub projectNumbers : Question → PrimitiveType → Transform → Predicate ℤ → Res (Projected (Predicate ℤ))
 projectNumbers question column transform leaf = byTransform compareNumbers (numberStep column transform question) transform leaf
@@ -83,6 +86,8 @@ module _ (column : PrimitiveType) (transform : Transform) where
   abbrev pub bytesStep : Question → Test (List ℕ) → Step
   bytesStep Inclusive t = inclusiveBytes column bytesUnder (lengthOf column) (widthOf transform) t
   bytesStep Strict t = strictBytes bytesUnder (lengthOf column) (widthOf transform) t
+  -- no transform of byte strings is lifted
+  bytesStep Older t = strictBytes bytesUnder (lengthOf column) (widthOf transform) t
 
 unfoldable pub projectBytes : Question → PrimitiveType → Transform → Predicate (List ℕ) → Res (Projected (Predicate (List ℕ)))
 projectBytes question column transform leaf = byTransform compareBytes (bytesStep column transform question) transform leaf

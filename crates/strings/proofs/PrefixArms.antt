@@ -31,7 +31,7 @@ use Rattle.projection.specs.laws.LeafDemandLaws.{whole-stays}
 use Rattle.projection.specs.Steps.{some, none}
 use Rattle.strings.specs.declared.steps.BytesProjection.{BytesProjection}
 use Rattle.projection.specs.declared.question.Question.{Question}
-use Rattle.projection.specs.declared.question.Question.the-variants.{Inclusive, Strict}
+use Rattle.projection.specs.declared.question.Question.the-variants.{Inclusive, Strict, Older}
 
 -- ---- T(L): a beginning of L
 module _ (column : PrimitiveType) (width : ℕ) (l t : List ℕ) (d : t ≡ truncateBytes column width l) where
@@ -46,6 +46,13 @@ module _ (column : PrimitiveType) (width : ℕ) (l t : List ℕ) (d : t ≡ trun
   truncated-prefix a = rw (← begins, bytes-truncates column width l, d)
 
 pub ruleset truncated = (truncated-prefix, no-longer-cut)
+
+-- Older is Strict here
+pub older-leaf : (column : PrimitiveType) (width : ℕ) (a : Operator) (l : List ℕ)
+    → bytesLeaf Strict column (Truncate width) a l ≡ bytesLeaf Older column (Truncate width) a l
+older-leaf column width (operators.none o) l = refl
+older-leaf column width (operators.one o) l = refl
+older-leaf column width (operators.many o) l = refl
 
 -- ---- by L's length
 -- L is all of its own bytes
@@ -74,7 +81,10 @@ module _ (n width : ℕ) (column : PrimitiveType) (l : List ℕ) (counted : n �
     pub longer-strict : question ≡ Strict → r ≡ strict → r ≡ chosen whole part (asked question inclusive strict)
     longer-strict is d = rw (longer, is) d
 
-pub ruleset by-length = (no-longer, as-long, shorter, longer-inclusive, longer-strict)
+    pub longer-older : question ≡ Older → r ≡ strict → r ≡ chosen whole part (asked question inclusive strict)
+    longer-older is d = rw (longer, is) d
+
+pub ruleset by-length = (no-longer, as-long, shorter, longer-inclusive, longer-strict, longer-older)
 
 -- where the operator stays at the width, a literal up to it is its own T(L)
 module _ (column : PrimitiveType) (width : ℕ) (l : List ℕ) where

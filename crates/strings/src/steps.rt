@@ -69,6 +69,7 @@ fn project_starts_with(
     match question {
         Question::Inclusive => truncate_array(column, width, PredicateOperator::StartsWith, l),
         Question::Strict => BytesProjection::None,
+        Question::Older => BytesProjection::None,
     }
 }
 
@@ -95,6 +96,7 @@ fn project_not_starts_with(
     match question {
         Question::Inclusive => BytesProjection::None,
         Question::Strict => truncate_array(column, width, PredicateOperator::NotStartsWith, l),
+        Question::Older => truncate_array(column, width, PredicateOperator::NotStartsWith, l),
     }
 }
 
@@ -191,5 +193,6 @@ pub fn project_bytes(
     match question {
         Question::Inclusive => project_array(column, width, operator, l),
         Question::Strict => truncate_array_strict(column, width, operator, l),
+        Question::Older => truncate_array_strict(column, width, operator, l),
     }
 }

@@ -14,7 +14,7 @@ use Rattle.values.specs.declared.transform.Transform.{Transform}
 use Rattle.values.specs.declared.transform.Transform.the-variants.{Identity, Truncate, Year, Month, Day, Hour, Void, Unknown}
 use Rattle.partition.specs.ResultType.{resultType}
 use Rattle.expr.specs.Operators.{Operator, none, one, many, isIn, notIn, byArity, projectLimit}
-use Rattle.expr.specs.code.OperatorAnswers.{takesOne, takes, leafOf}
+use Rattle.expr.specs.code.OperatorAnswers.{takesOne, takesMany, takes, leafOf}
 use Rattle.expr.specs.Predicates.{Test, Predicate, test}
 use Rattle.expr.specs.declared.operator.PredicateOperator.{PredicateOperator}
 use Rattle.projection.specs.Lifting.{lifted}
@@ -23,7 +23,7 @@ use Rattle.projection.specs.Steps.{Projected, mapped}
 use Rattle.numbers.specs.declared.steps.NumberProjection.{NumberProjection}
 use Rattle.numbers.specs.declared.steps.NumberProjection.the-variants as number-projection
 use Rattle.projection.specs.declared.question.Question.{Question}
-use Rattle.projection.specs.declared.question.Question.the-variants.{Inclusive, Strict}
+use Rattle.projection.specs.declared.question.Question.the-variants.{Inclusive, Strict, Older}
 use Rattle.sheet.specs.code.ReadAnswers.{Placed, contentsAt, numbersAt}
 use Rattle.sheet.specs.Records.{recordSize}
 use Rattle.write.specs.Written.{answerSheet, numberBytes, sheetBuffer}
@@ -80,13 +80,14 @@ oneBytesWritten to r = bytesWritten to (do
 abbrev pub NumbersIn : PrimitiveType → NumberProjection → Type 0
 NumbersIn to number-projection.None = Unit {0}
 NumbersIn to (number-projection.One o t) = (inType to t ≡ true) × (takesOne (byArity o) ≡ true)
-NumbersIn to (number-projection.Two t) = (inType to t ≡ true) × (inType to (sucℤ t) ≡ true)
+NumbersIn to (number-projection.Two o t) = (inType to t ≡ true) × (inType to (sucℤ t) ≡ true) × (takesMany (byArity o) ≡ true)
 NumbersIn to (number-projection.Err e) = Unit {0}
 
 -- whether a set is lifted
 abbrev pub liftsFor : Question → PrimitiveType → Transform → Bool
 liftsFor Inclusive column transform = lifted column transform
 liftsFor Strict column transform = false
+liftsFor Older column transform = lifted column transform
 
 -- Void and Unknown have no steps
 abbrev pub hasSteps : Transform → Bool
@@ -125,7 +126,7 @@ pub record ReadyLeaf (x : Leaf) (s records out : List ℕ) : Type 0 where
 
 -- ---- sets
 
--- inclusive keeps In, strict NotIn
+-- inclusive keeps In, strict NotIn, for older files too
 abbrev pub keptBy : Question → Operator → Bool
 keptBy question (none o) = false
 keptBy question (one o) = false
@@ -133,6 +134,8 @@ keptBy Inclusive (many isIn) = true
 keptBy Inclusive (many notIn) = false
 keptBy Strict (many isIn) = false
 keptBy Strict (many notIn) = true
+keptBy Older (many isIn) = false
+keptBy Older (many notIn) = true
 
 -- Identity keeps both
 abbrev pub keeps : Transform → Question → Operator → Bool

@@ -33,7 +33,7 @@ use Rattle.projection.specs.Steps.{Projected, some, mapped}
 use Rattle.strings.specs.declared.steps.BytesProjection.{BytesProjection}
 use Rattle.strings.specs.declared.steps.BytesProjection.the-variants.{Prefix}
 use Rattle.projection.specs.declared.question.Question.{Question}
-use Rattle.projection.specs.declared.question.Question.the-variants.{Inclusive, Strict}
+use Rattle.projection.specs.declared.question.Question.the-variants.{Inclusive, Strict, Older}
 use Rattle.sheet.specs.code.ReadAnswers.{contentAt, contentsAt, PartAt, partAt, Parts, partsAt}
 use Rattle.sheet.specs.Records.{headerSize, recordSize, recordAt, lengthIn}
 use Rattle.sheet.specs.laws.SheetLaws.{Fits}
@@ -174,6 +174,9 @@ module _ (to : PrimitiveType) where
     set-through t Inclusive (many notIn) h = absurd (true≢false (cc))
     set-through t Strict (many isIn) h = absurd (true≢false (cc))
     set-through t Strict (many notIn) h =
+        ap (λ r. bytesWritten to (r >>= λ q. ok (mapped test q))) (bytes-outside column t ls) ∙ as-set notIn (bytesSet column t ls)
+    set-through t Older (many isIn) h = absurd (true≢false (cc))
+    set-through t Older (many notIn) h =
         ap (λ r. bytesWritten to (r >>= λ q. ok (mapped test q))) (bytes-outside column t ls) ∙ as-set notIn (bytesSet column t ls)
 
 -- the set that the code collects of a leaf, written, is what the steps give

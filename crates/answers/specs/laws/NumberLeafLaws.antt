@@ -3,7 +3,7 @@
 use Prim.Native.Nat.{ℕ, suc, _*_}
 use mathlib.Core.Bool.{true, false, false≢true}
 use mathlib.Core.List.{List, [], _∷_, map}
-use mathlib.Core.Path.{_≡_, refl, sym, ap, subst, _∙_}
+use mathlib.Core.Path.{_≡_, sym, ap, subst, _∙_}
 use lib.IntN.{ℤ, sucℤ}
 use lib.ListN.{length, getD, length-map}
 use borrow.Author.Tests.{eq-eqb}
@@ -20,11 +20,11 @@ use Rattle.values.specs.declared.transform.Transform.{Transform}
 use Rattle.values.specs.declared.transform.Transform.the-variants.{Identity}
 use Rattle.partition.specs.code.PartitionAnswers.{InType}
 use Rattle.partition.specs.ResultType.{resultType}
-use Rattle.expr.specs.Operators.{Binary as BinaryOperator, Operator, one, isIn, byArity}
+use Rattle.expr.specs.Operators.{Binary as BinaryOperator, Operator, one, byArity}
 use Rattle.expr.specs.code.OperatorAnswers.{takesOne}
 use Rattle.expr.specs.Predicates.{Test, Predicate, test, binary, set, operatorIn, literalsIn}
 use Rattle.projection.specs.code.OneLiteral.{oneTest}
-use Rattle.numbers.specs.code.Boundaries.{numberLeaf, OneIn, numberProjected}
+use Rattle.numbers.specs.code.Boundaries.{numberLeaf, OneIn, twoTest, numberProjected}
 use Rattle.projection.specs.laws.LandingLaws.{numbers-land}
 use Rattle.projection.specs.Projection.{byTransform, numberStep, projectNumbers}
 use Rattle.projection.specs.Steps.{some, mapped}
@@ -39,7 +39,7 @@ use Rattle.write.specs.laws.WrittenLaws.{length-answer}
 use Rattle.answers.specs.code.Settled.{Settled}
 use Rattle.sheet.specs.Values.{mapLiterals}
 use Rattle.answers.specs.code.Leaves.{numbersWritten, numberSteps, numberLeafAt, oneWritten, NumbersIn, hasSteps, isIdentity, ReadyLeaf, NumberColumn}
-use Rattle.answers.specs.laws.OneLiteralLaws.{takes-one, one-literal}
+use Rattle.answers.specs.laws.OneLiteralLaws.{takes-one, takes-many, one-literal}
 use Rattle.sheet.specs.laws.ReadLaws.{map-operator, map-literals}
 use Rattle.answers.specs.laws.StepsLaws.{steps-through}
 use Rattle.answers.specs.declared.answer.Answer.the-variants.{Written}
@@ -110,9 +110,10 @@ module _ (question : Question) (column to : PrimitiveType) (transform : Transfor
   leaf-inside inside (number-projection.One o t) e h =
       let k = takes-one (byArity o) h in
       (landed (number-projection.One o t) e inside (binary (k .0) t) (ap (λ b. ok (oneTest b t)) (k .1)) .0, h)
-  leaf-inside inside (number-projection.Two t) e h =
-      let all = landed (number-projection.Two t) e inside (set isIn (t ∷ sucℤ t ∷ [])) refl in
-      (all .0, all .1 .0)
+  leaf-inside inside (number-projection.Two o t) e h =
+      let k = takes-many (byArity o) h in
+      let all = landed (number-projection.Two o t) e inside (set (k .0) (t ∷ sucℤ t ∷ [])) (ap (λ b. ok (twoTest b t)) (k .1)) in
+      (all .0, all .1 .0, h)
   leaf-inside inside (number-projection.Err k) e h = tt
 
 -- ---- a leaf with one literal

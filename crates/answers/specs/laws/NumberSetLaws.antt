@@ -17,32 +17,28 @@ use Rattle.values.specs.declared.error.ErrorKind.{ErrorKind}
 use Rattle.values.specs.declared.transform.Transform.{Transform}
 use Rattle.values.specs.declared.transform.Transform.the-variants.{Identity, Truncate, Year, Month, Day, Hour, Void, Unknown}
 use Rattle.partition.specs.code.PartitionAnswers.{InType}
-use Rattle.expr.specs.Operators.{Operator, SetOperator, none, one, many, isIn, notIn, byArity, operatorOf, holdsLimit}
+use Rattle.expr.specs.Operators.{Operator, SetOperator, many, isIn, notIn, byArity, operatorOf, holdsLimit}
 use Rattle.expr.specs.code.OperatorAnswers.{takesMany}
 use Rattle.expr.specs.laws.PredicateLaws.{operator-of}
 use Rattle.expr.specs.Predicates.{Predicate, test, set}
 use Rattle.projection.specs.Projection.{byTransform, numberStep}
 use Rattle.projection.specs.Steps.{Projected, some, mapped}
 use Rattle.projection.specs.declared.question.Question.{Question}
-use Rattle.projection.specs.declared.question.Question.the-variants.{Inclusive, Strict}
+use Rattle.projection.specs.declared.question.Question.the-variants.{Inclusive, Strict, Older}
 use Rattle.sheet.specs.code.ReadAnswers.{numbersAt}
 use Rattle.sheet.specs.Records.{recordSize}
 use Rattle.write.specs.Written.{answerBytes, numberBytes}
-use Rattle.sets.specs.laws.SetLaws.{asSet, number-within, number-outside, number-set-identity, number-set-lands}
+use Rattle.sets.specs.laws.SetLaws.{asSet, number-within, number-outside, number-outside-older, number-set-identity, number-set-lands}
 use Rattle.sets.specs.code.Sets.{numberSet, collected, Filled}
 use Rattle.sets.specs.declared.number.Collected.the-variants as collected-as
 use Rattle.answers.specs.code.Settled.{Settled}
 use Rattle.answers.specs.laws.CollectedLaws.{found-count, found-error}
 use Rattle.answers.specs.code.Leaves.{numbersWritten, numberSteps, numberLeafAt, liftsFor, hasSteps, keptBy, keeps, ReadyLeaf, NumberColumn}
 use Rattle.answers.specs.laws.NumberLeafLaws.{predicate-written, numbers-inside}
+use Rattle.answers.specs.laws.OneLiteralLaws.{takes-many}
 use Rattle.answers.specs.laws.SettledLaws.{settled-refused}
 use Rattle.answers.specs.declared.answer.Answer.the-variants.{Written, Err}
 use Rattle.answers.specs.declared.leaf.Leaf.{Leaf}
-
-takes-many : (a : Operator) → takesMany a ≡ true → (o : SetOperator) × (a ≡ many o)
-takes-many (none o) h = absurd (false≢true h)
-takes-many (one o) h = absurd (false≢true h)
-takes-many (many o) h = (o, refl)
 
 -- ---- the steps of a set that has a projection are the set that is collected
 module _ (column : PrimitiveType) (question : Question) (o : SetOperator) (ls : List ℤ) where
@@ -65,10 +61,13 @@ module _ (column : PrimitiveType) (question : Question) (o : SetOperator) (ls : 
       go Inclusive notIn h = absurd (false≢true h)
       go Strict isIn h = absurd (false≢true h)
       go Strict notIn h = rw (number-outside column transform ls)
+      go Older isIn h = absurd (false≢true h)
+      go Older notIn h = rw (number-outside-older column transform ls)
 
   not-lifted : (question : Question) → liftsFor question column Identity ≡ false
   not-lifted Inclusive = refl
   not-lifted Strict = refl
+  not-lifted Older = refl
 
   set-itself : ok (some (test (set o (ascending compareNumbers ls)))) ≡ asPredicate (collect Identity)
   set-itself = rw (not-lifted question, number-set-identity column ls)

@@ -8,8 +8,8 @@ use lib.ListN.{length, getD, take}
 use borrow.Author.Tests.{eqb-true}
 use Rattle.values.specs.laws.TestLaws.{clash}
 use Rattle.values.specs.Types.{layout}
-use Rattle.expr.specs.Operators.{Operator, Binary, none, one, many, byArity}
-use Rattle.expr.specs.code.OperatorAnswers.{takes, takesOne}
+use Rattle.expr.specs.Operators.{Operator, Binary, SetOperator, none, one, many, byArity}
+use Rattle.expr.specs.code.OperatorAnswers.{takes, takesOne, takesMany}
 use Rattle.sheet.specs.code.ReadAnswers.{LiteralAt}
 use Rattle.answers.specs.code.Leaves.{ReadyLeaf}
 use Rattle.answers.specs.declared.leaf.Leaf.{Leaf}
@@ -18,6 +18,11 @@ pub takes-one : (a : Operator) → takesOne a ≡ true → (o : Binary) × (a �
 takes-one (none o) h = clash h refl
 takes-one (one o) h = (o, refl)
 takes-one (many o) h = clash h refl
+
+pub takes-many : (a : Operator) → takesMany a ≡ true → (o : SetOperator) × (a ≡ many o)
+takes-many (none o) h = clash h refl
+takes-many (one o) h = clash h refl
+takes-many (many o) h = (o, refl)
 
 module _ {x : Leaf} {s records out : List ℕ} (ready : ReadyLeaf x s records out) (single : takesOne (byArity (x .operator)) ≡ true) where
   one-count : x .count ≡ 1

@@ -26,7 +26,7 @@ use Rattle.projection.specs.Lifting.{lifted}
 use Rattle.projection.specs.Projection.{through, byTransform, numberStep, bytesStep}
 use Rattle.projection.specs.Steps.{Projected, some, none}
 use Rattle.projection.specs.declared.question.Question.{Question}
-use Rattle.projection.specs.declared.question.Question.the-variants.{Inclusive, Strict}
+use Rattle.projection.specs.declared.question.Question.the-variants.{Inclusive, Strict, Older}
 use Rattle.sheet.specs.code.ReadAnswers.{Placed, contentsAt}
 use Rattle.write.specs.Written.{answerBytes, answerSheet}
 use Rattle.sheet.specs.code.Contents.{numberIn}
@@ -70,6 +70,8 @@ module _ (column : PrimitiveType) (transform : Transform) where
   numbers-not-kept Inclusive notIn ls h = ap ok (sym (lifted-none (lifted column transform)))
   numbers-not-kept Strict isIn ls h = refl
   numbers-not-kept Strict notIn ls h = clash refl h
+  numbers-not-kept Older isIn ls h = refl
+  numbers-not-kept Older notIn ls h = clash refl h
 
   bytes-not-kept : (question : Question) (o : SetOperator) (ls : List (List ℕ)) → keptBy question (many o) ≡ false
       → bytesStep column transform question (set o ls) ≡ ok none
@@ -77,6 +79,8 @@ module _ (column : PrimitiveType) (transform : Transform) where
   bytes-not-kept Inclusive notIn ls h = refl
   bytes-not-kept Strict isIn ls h = refl
   bytes-not-kept Strict notIn ls h = clash refl h
+  bytes-not-kept Older isIn ls h = refl
+  bytes-not-kept Older notIn ls h = clash refl h
 
 zero-number : (column : PrimitiveType) → numberIn (layout column) [] ≡ pos 0
 zero-number Int = refl

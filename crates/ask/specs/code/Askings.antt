@@ -1,10 +1,10 @@
 -- What a leaf with one typed literal is answered, of a row or of a partition value, as the code has it. Assumes nothing.
 use Prim.Native.Nat.{ℕ}
 use mathlib.Core.Bool.{Bool, true, false}
-use mathlib.Core.List.{List}
+use mathlib.Core.List.{List, [], _∷_}
 use mathlib.Core.Logic.{_⊎_}
 use mathlib.Core.Path.{_≡_}
-use lib.IntN.{ℤ}
+use lib.IntN.{ℤ, sucℤ}
 use lib.ListN.{length}
 use Rattle.values.specs.Outcomes.{Res, ok, _>>=_, Row, missing, present}
 use Rattle.values.specs.Words.{leNumber, signed}
@@ -14,28 +14,21 @@ use Rattle.partition.specs.ResultType.{resultType}
 use Rattle.expr.specs.Holds.{Tests, numberTests, bytesTests, missingMeets, holds}
 use Rattle.expr.specs.Operators as operators
 use Rattle.expr.specs.Operators.{Operator}
-use Rattle.expr.specs.Predicates.{Test, Predicate, binary, test}
+use Rattle.expr.specs.Predicates.{Test, Predicate, binary, set, test}
 use Rattle.expr.specs.code.OperatorAnswers.{meetsOne}
 use Rattle.projection.specs.Projection.{projectNumbers, projectBytes}
 use Rattle.projection.specs.Steps.{Projected, mapped}
 use Rattle.projection.specs.declared.question.Question.{Question}
-use Rattle.projection.specs.declared.question.Question.the-variants.{Inclusive, Strict}
 use Rattle.sheet.specs.Values.{mapRow}
 use Rattle.columns.specs.Cells.{typeOr}
 use Rattle.ask.specs.LeafAnswers.{accepted}
 use Rattle.ask.specs.declared.asked.Asked.{Asked}
 use Rattle.ask.specs.declared.asked.Asked.the-variants as asked
 
--- a question is asked of a partition value
-abbrev pub ofPart : Question → Asked
-ofPart Inclusive = asked.Inclusive
-ofPart Strict = asked.Strict
-
 -- the type of the value that is asked: the column's, or the partition values'
 abbrev pub typeAsked : Asked → PrimitiveType → Transform → PrimitiveType
 typeAsked asked.Row column transform = column
-typeAsked asked.Inclusive column transform = typeOr column (resultType transform column)
-typeAsked asked.Strict column transform = typeOr column (resultType transform column)
+typeAsked (asked.Part question) column transform = typeOr column (resultType transform column)
 
 -- ---- of either kind: how values are tested, the type of the partition values, and how a leaf is projected
 module _ {A : Type 0} (by : Tests A) (to : Res PrimitiveType) (project : Question → Predicate A → Res (Projected (Predicate A))) where
@@ -47,8 +40,7 @@ module _ {A : Type 0} (by : Tests A) (to : Res PrimitiveType) (project : Questio
 
   abbrev pub leafHeld : Asked → Predicate A → Row A → Res Bool
   leafHeld asked.Row leaf r = ok (holds by leaf r)
-  leafHeld asked.Inclusive leaf p = partHeld Inclusive leaf p
-  leafHeld asked.Strict leaf p = partHeld Strict leaf p
+  leafHeld (asked.Part question) leaf p = partHeld question leaf p
 
   -- an operator that takes one literal, with it; no other operator is met
   abbrev pub oneHeld : Asked → Operator → A → Row A → Res Bool
@@ -69,6 +61,12 @@ textAnswer a column transform o l r =
     oneHeld bytesTests (resultType transform column) (λ question leaf. projectBytes question column transform leaf) a o l r
 
 -- ---- on the way
+
+-- a value against a set operator with t and the number above it; no other operator is met
+abbrev pub meetsTwo : Operator → ℤ → Row ℤ → Bool
+meetsTwo (operators.none o) t r = false
+meetsTwo (operators.one o) t r = false
+meetsTwo (operators.many o) t r = holds numberTests (test (set o (t ∷ sucℤ t ∷ []))) r
 
 -- the content of a number, where there is one, has 4 bytes or 8
 abbrev pub NumberSized : Bool → List ℕ → Type 0

@@ -2,7 +2,7 @@
 use Prim.Native.Nat.{ℕ}
 use mathlib.Core.Bool.{true, false, not, _||_, false≢true}
 use mathlib.Core.List.{List}
-use mathlib.Core.Path.{_≡_, refl, sym}
+use mathlib.Core.Path.{_≡_, refl}
 use lib.IntN.{ℤ}
 use lib.ListN.{length}
 use borrow.Author.Tests.{eqb-true}
@@ -15,11 +15,7 @@ use Rattle.values.specs.declared.datatypes.PrimitiveType.the-variants.{String}
 use Rattle.values.specs.declared.transform.Transform.{Transform}
 use Rattle.values.specs.laws.TestLaws.{and-both}
 use Rattle.values.specs.laws.WordLaws.{signed-bytes}
-use Rattle.partition.specs.ResultType.{resultType}
-use Rattle.expr.specs.Holds.{numberTests, bytesTests}
 use Rattle.expr.specs.Operators.{one}
-use Rattle.expr.specs.Predicates.{binary, test}
-use Rattle.projection.specs.Projection.{projectNumbers, projectBytes}
 use Rattle.projection.specs.declared.question.Question.{Question}
 use Rattle.sheet.specs.Values.{mapRow}
 use Rattle.sheet.specs.code.Contents.{rowUtf8}
@@ -29,8 +25,7 @@ use Rattle.meets.specs.Tested.{testedSheet}
 use Rattle.columns.specs.Cells.{Cell}
 use Rattle.leaves.specs.Fitting.{Leaf, decimal, text, fits, fitsLength, contentOf}
 use Rattle.ask.specs.LeafAnswers.{rowAt, rowAnswer, partAnswer}
-use Rattle.ask.specs.code.Askings.{ofPart, numberRow, numberAnswer, textAnswer}
-use Rattle.ask.specs.laws.PartAnswerLaws.{of-part}
+use Rattle.ask.specs.code.Askings.{numberRow, numberAnswer, textAnswer}
 use Rattle.ask.specs.declared.asked.Asked.the-variants as asked
 
 -- ---- numbers: the column of one, which reads back as it was written, and a value that is as long as its type asks for
@@ -78,15 +73,12 @@ module _ (cells : List Cell) (l : Leaf) (r : Row (List ℕ)) (at : rowAt cells (
         let sized = sized-row column (k .0) r (k .1) h in
         rw (at, written, k .1, number-row (k .0) r, back, sized)
 
-    pub part-number : (question : Question) → partAnswer question cells l ≡ numberAnswer (ofPart question) column transform (one (l .operator)) z r
+    pub part-number : (question : Question) → partAnswer question cells l ≡ numberAnswer (asked.Part question) column transform (one (l .operator)) z r
     unfolding partAnswer numberAnswer
     part-number question =
         let k = number-column column z fit in
         let back = read-back column z (k .0) fit (k .1) in
-        let leaf = test (binary (l .operator) z) in
-        rw
-        (at, written, k .1, back)
-        (sym (of-part numberTests (resultType transform column) (λ q f. projectNumbers q column transform f) question leaf (numberRow r)))
+        rw (at, written, k .1, back)
 
   module _ (s : List ℕ) (fit : fits column (text s) ≡ true) (written : l .content ≡ contentOf column (text s)) where
     passed : (fitsLength (layout column) (length s) ≡ true) × ((not (sameType column String) || utf8 s) ≡ true)
@@ -96,11 +88,8 @@ module _ (cells : List Cell) (l : Leaf) (r : Row (List ℕ)) (at : rowAt cells (
     unfolding rowAnswer testedSheet textAnswer
     row-text h = let k = bytes-column (layout column) (length s) (passed .0) in rw (at, written, k .1, passed .1, bytes-row column r, h)
 
-    pub part-text : (question : Question) → partAnswer question cells l ≡ textAnswer (ofPart question) column transform (one (l .operator)) s r
+    pub part-text : (question : Question) → partAnswer question cells l ≡ textAnswer (asked.Part question) column transform (one (l .operator)) s r
     unfolding partAnswer textAnswer
     part-text question =
         let k = bytes-column (layout column) (length s) (passed .0) in
-        let leaf = test (binary (l .operator) s) in
-        rw
-        (at, written, k .1, passed .1, same-row r)
-        (sym (of-part bytesTests (resultType transform column) (λ q f. projectBytes q column transform f) question leaf r))
+        rw (at, written, k .1, passed .1, same-row r)

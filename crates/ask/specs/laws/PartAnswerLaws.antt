@@ -2,7 +2,7 @@
 use Prim.Native.Nat.{ℕ}
 use mathlib.Core.Bool.{Bool, true, false}
 use mathlib.Core.List.{List}
-use mathlib.Core.Path.{_≡_, refl, ap, _∙_}
+use mathlib.Core.Path.{_≡_, refl, ap}
 use lib.IntN.{ℤ}
 use Rattle.values.specs.Order.{compareNumbers, compareBytes}
 use Rattle.values.specs.Outcomes.{Res, ok, err, _>>=_, Row, missing, present}
@@ -18,32 +18,18 @@ use Rattle.expr.specs.Holds.{Tests, numberTests, bytesTests, holds}
 use Rattle.expr.specs.Operators as operators
 use Rattle.expr.specs.Operators.{Operator, Binary, one}
 use Rattle.expr.specs.Predicates.{Test, Predicate, binary, test}
-use Rattle.expr.specs.code.OperatorAnswers.{takesOne}
+use Rattle.expr.specs.code.OperatorAnswers.{takesOne, takesMany}
 use Rattle.projection.specs.Projection.{byTransform, numberStep, projectNumbers, bytesStep, projectBytes}
 use Rattle.projection.specs.Steps.{Projected, mapped}
 use Rattle.projection.specs.code.OneLiteral.{oneTest}
 use Rattle.projection.specs.declared.question.Question.{Question}
-use Rattle.projection.specs.declared.question.Question.the-variants.{Inclusive, Strict}
-use Rattle.numbers.specs.code.Boundaries.{numberLeaf}
+use Rattle.numbers.specs.code.Boundaries.{numberLeaf, twoTest}
 use Rattle.strings.specs.code.Prefixes.{bytesLeaf}
-use Rattle.columns.specs.Cells.{typeOr}
 use Rattle.answers.specs.code.Leaves.{hasSteps, isIdentity}
 use Rattle.answers.specs.laws.StepsLaws.{steps-through}
 use Rattle.ask.specs.LeafAnswers.{withoutPredicate, accepted}
-use Rattle.ask.specs.code.Askings.{ofPart, typeAsked, partHeld, leafHeld, oneHeld, numberRow, numberAnswer, textAnswer, meetsRow, stepHeld}
+use Rattle.ask.specs.code.Askings.{leafHeld, oneHeld, numberRow, numberAnswer, textAnswer, meetsRow, meetsTwo, stepHeld}
 use Rattle.ask.specs.declared.asked.Asked.the-variants as asked
-
--- a question, as it is asked of a partition value
-pub of-part : {A : Type 0} (by : Tests A) (to : Res PrimitiveType) (project : Question → Predicate A → Res (Projected (Predicate A)))
-    (question : Question) (leaf : Predicate A) (p : Row A)
-    → leafHeld by to project (ofPart question) leaf p ≡ partHeld by to project question leaf p
-of-part by to project Inclusive leaf p = refl
-of-part by to project Strict leaf p = refl
-
-pub part-type : (question : Question) (column : PrimitiveType) (transform : Transform)
-    → typeAsked (ofPart question) column transform ≡ typeOr column (resultType transform column)
-part-type Inclusive column transform = refl
-part-type Strict column transform = refl
 
 -- ---- values of either kind
 module _ {A : Type 0} (by : Tests A) where
@@ -64,6 +50,13 @@ module _ {A : Type 0} (by : Tests A) where
     row-held (one o) l r h = ap ok (meets-row o l r)
     row-held (operators.many o) l r h = clash h refl
 
+-- and with a set of two
+pub step-two : (question : Question) (a : Operator) (t : ℤ) (p : Row ℤ) → takesMany a ≡ true
+    → stepHeld numberTests question (ok (twoTest a t)) p ≡ ok (meetsTwo a t p)
+step-two question (operators.none o) t p h = clash h refl
+step-two question (one o) t p h = clash h refl
+step-two question (operators.many o) t p h = refl
+
 -- ---- a partition value's answer: 5, Unknown's 7, what is answered without a predicate, by the leaf itself, and by its step
 pub record PartAnswer (answer : Res Bool) (to : Res PrimitiveType) (transform : Transform) (without itself : Bool) (step : Res Bool) : Type 0 where
   pub no-type : (e : ErrorKind) → to ≡ err e → answer ≡ err e
@@ -80,27 +73,24 @@ module _ {A : Type 0} (by : Tests A) (compare : A → A → Ordering) (step : Qu
   abbrev project : Question → Predicate A → Res (Projected (Predicate A))
   project q f = byTransform compare (step q) transform f
 
-  is-part : leafHeld by to project (ofPart question) leaf p ≡ partHeld by to project question leaf p
-  is-part = of-part by to project question leaf p
-
   by-step : (r : Res (Projected (Test A))) → ((r >>= λ q. ok (mapped test q)) >>= λ q. ok (accepted by question q p)) ≡ stepHeld by question r p
   by-step (ok q) = refl
   by-step (err e) = refl
 
-  part-answer : PartAnswer (leafHeld by to project (ofPart question) leaf p) to transform
+  part-answer : PartAnswer (leafHeld by to project (asked.Part question) leaf p) to transform
       (withoutPredicate question) (meetsRow by (one o) l p) (stepHeld by question (step question (binary o l)) p)
   part-answer = record {
-    no-type = λ e t. is-part ∙ rw t;
-    unknown = λ type t is. is-part ∙ rw (t, is);
-    void = λ type t is. is-part ∙ rw (t, is);
-    identity = λ type t is. is-part ∙ rw (t, is) (ap ok (meets-row by o l p));
-    stepped = λ type t known other. is-part ∙ rw (t, steps-through compare (step question) transform leaf known other) (by-step (step question (binary o l)));
+    no-type = λ e t. rw t;
+    unknown = λ type t is. rw (t, is);
+    void = λ type t is. rw (t, is);
+    identity = λ type t is. rw (t, is) (ap ok (meets-row by o l p));
+    stepped = λ type t known other. rw (t, steps-through compare (step question) transform leaf known other) (by-step (step question (binary o l)));
   }
 
 -- ---- numbers: a row's answer, and a partition value's
 abbrev pub NumberPart : Question → PrimitiveType → Transform → Operator → ℤ → Row (List ℕ) → Type 0
 NumberPart question column transform a l r =
-    PartAnswer (numberAnswer (ofPart question) column transform a l r) (resultType transform column) transform
+    PartAnswer (numberAnswer (asked.Part question) column transform a l r) (resultType transform column) transform
     (withoutPredicate question) (meetsRow numberTests a l (numberRow r))
     (stepHeld numberTests question (numberLeaf question column transform a l) (numberRow r))
 
@@ -119,7 +109,7 @@ module _ (column : PrimitiveType) (transform : Transform) (l : ℤ) (r : Row (Li
 -- ---- texts: a row's answer, and a partition value's
 abbrev pub TextPart : Question → PrimitiveType → Transform → Operator → List ℕ → Row (List ℕ) → Type 0
 TextPart question column transform a l r =
-    PartAnswer (textAnswer (ofPart question) column transform a l r) (resultType transform column) transform
+    PartAnswer (textAnswer (asked.Part question) column transform a l r) (resultType transform column) transform
     (withoutPredicate question) (meetsRow bytesTests a l r)
     (stepHeld bytesTests question (bytesLeaf question column transform a l) r)
 

@@ -3,7 +3,6 @@ use Prim.Native.Nat.{ℕ}
 use mathlib.Core.Bool.{Bool}
 use mathlib.Core.List.{List, []}
 use Rattle.values.specs.Outcomes.{Res}
-use Rattle.projection.specs.declared.question.Question.the-variants as question
 use Rattle.columns.specs.Cells.{Side, rows, parts, Cell, cellsOf}
 use Rattle.columns.specs.code.ColumnAnswers.{okOr}
 use Rattle.leaves.specs.Fitting.{Leaf}
@@ -13,13 +12,11 @@ use Rattle.ask.specs.declared.asked.Asked.the-variants as asked
 
 abbrev pub sideFor : Asked → Side
 sideFor asked.Row = rows
-sideFor asked.Inclusive = parts
-sideFor asked.Strict = parts
+sideFor (asked.Part question) = parts
 
 abbrev pub askIn : Asked → List Cell → Leaf → Res Bool
 askIn asked.Row cells l = rowAnswer cells l
-askIn asked.Inclusive cells l = partAnswer question.Inclusive cells l
-askIn asked.Strict cells l = partAnswer question.Strict cells l
+askIn (asked.Part question) cells l = partAnswer question cells l
 
 -- the values beside a list, and none where they are broken
 unfoldable pub cellsIn : Side → List ℕ → List ℕ → List Cell

@@ -15,7 +15,6 @@ use Rattle.expr.specs.declared.operator.PredicateOperator.{PredicateOperator}
 use Rattle.expr.specs.declared.operator.PredicateOperator.the-variants as operator
 use Rattle.sheet.specs.laws.RecordLaws.{FitsRow, value-read}
 use Rattle.sheet.specs.Records.{recordAt}
-use Rattle.projection.specs.declared.question.Question.the-variants as question
 use Rattle.columns.specs.Cells.{Cell, typeOf}
 use Rattle.columns.specs.code.ColumnAnswers.{columnsIn, cellAt, encoded}
 use Rattle.columns.specs.laws.CellLaws.{CellsRead, cell-column}
@@ -124,8 +123,7 @@ module _ (a : Asked) (c v s : List ℕ) (cells : List Cell) (read : CellsRead (s
         go asked.Row e =
             let fit : FitsRow (leaf .head .column) r = rw (same-head negate l) (fits-row e h) in
             row-number cells leaf r at-place (x .number) number-fits number-written fit ∙ turned-number asked.Row
-        go asked.Inclusive e = part-number cells leaf r at-place (x .number) number-fits number-written question.Inclusive ∙ turned-number asked.Inclusive
-        go asked.Strict e = part-number cells leaf r at-place (x .number) number-fits number-written question.Strict ∙ turned-number asked.Strict
+        go (asked.Part question) e = part-number cells leaf r at-place (x .number) number-fits number-written question ∙ turned-number (asked.Part question)
 
   -- ---- a text
   module _ (is-text : x .«is_text» ≡ true) where
@@ -152,5 +150,4 @@ module _ (a : Asked) (c v s : List ℕ) (cells : List Cell) (read : CellsRead (s
             let utf : encoded (l .head .column) r ≡ true = rw (← row-type e, ← here) (read .all (x .place) h .utf8) in
             let fine : encoded (leaf .head .column) r ≡ true = rw (same-head negate l) utf in
             row-text cells leaf r at-place literal text-fits text-written fine ∙ turned-text asked.Row
-        go asked.Inclusive e = part-text cells leaf r at-place literal text-fits text-written question.Inclusive ∙ turned-text asked.Inclusive
-        go asked.Strict e = part-text cells leaf r at-place literal text-fits text-written question.Strict ∙ turned-text asked.Strict
+        go (asked.Part question) e = part-text cells leaf r at-place literal text-fits text-written question ∙ turned-text (asked.Part question)

@@ -4,7 +4,7 @@ use Rattle.expr.specs.Operators.{Operator}
 use Rattle.expr.specs.Predicates.{Test, binary}
 use Rattle.projection.specs.Steps.{Projected, some, none}
 use Rattle.projection.specs.declared.question.Question.{Question}
-use Rattle.projection.specs.declared.question.Question.the-variants.{Inclusive, Strict}
+use Rattle.projection.specs.declared.question.Question.the-variants.{Inclusive, Strict, Older}
 
 -- an operator that takes one literal, with it; no other operator makes a test
 abbrev pub oneTest : {A : Type 0} → Operator → A → Projected (Test A)
@@ -16,3 +16,4 @@ oneTest (operators.many o) l = none
 abbrev pub asked : {X : Type 0} → Question → X → X → X
 asked Inclusive x y = x
 asked Strict x y = y
+asked Older x y = y

@@ -29,17 +29,17 @@ use Rattle.partition.specs.laws.PartitionLaws.{number-lands, number-identity, s
 use Rattle.partition.specs.ResultType.{resultType}
 use Rattle.expr.specs.Predicates.{Test, Predicate, test, literalsIn}
 use Rattle.projection.specs.laws.LeafDemand.{HeldIn}
-use Rattle.projection.specs.Lifting.{lifted}
-use Rattle.projection.specs.laws.LiteralLaws.{Landed, lands, lift-lands, inclusive-numbers, strict-numbers, inclusive-bytes, strict-bytes}
+use Rattle.projection.specs.Lifting.{lifted, olderIf}
+use Rattle.projection.specs.laws.LiteralLaws.{Landed, lands, lift-lands, older-lands, inclusive-numbers, strict-numbers, inclusive-bytes, strict-bytes}
 use Rattle.projection.specs.laws.LiftingLaws.{liftIf, returned-lifted}
 use Rattle.projection.specs.NumberSteps.{inclusiveNumber, strictNumber}
 use Rattle.projection.specs.Projection.{lengthOf, numberUnder, numberStep, projectNumbers, bytesUnder, bytesStep, projectBytes}
 use Rattle.projection.specs.laws.RowLaws.{literal-value}
 use Rattle.projection.specs.laws.ProjectionLaws.{course}
-use Rattle.projection.specs.laws.StepLaws.{Returned, returned-weaken}
+use Rattle.projection.specs.laws.StepLaws.{Returned, returned-weaken, returned-map}
 use Rattle.projection.specs.Steps.{some}
 use Rattle.projection.specs.declared.question.Question.{Question}
-use Rattle.projection.specs.declared.question.Question.the-variants.{Inclusive, Strict}
+use Rattle.projection.specs.declared.question.Question.the-variants.{Inclusive, Strict, Older}
 
 -- ---- numbers
 module _ (column to : PrimitiveType) (transform : Transform) (r : resultType transform column ≡ ok to) where
@@ -52,6 +52,10 @@ module _ (column to : PrimitiveType) (transform : Transform) (r : resultType tra
   lift-if : (lifts : Bool) (n : ℕ) (q : Test ℤ) → Landed (InType to) n (test q) → Landed (InType to) (2 * n) (test (liftIf lifts q))
   lift-if true n q k = lift-lands (InType to) (λ z below h. next-in-type to z h below) n q k
   lift-if false n q k = record { all = k .all; count = omega (arith, k .count) }
+
+  older-if : (lifts : Bool) (n : ℕ) (q : Test ℤ) → Landed (InType to) n (test q) → Landed (InType to) (2 * n) (test (olderIf lifts q))
+  older-if true n q k = older-lands (InType to) (λ z below h. next-in-type to z h below) n q k
+  older-if false n q k = record { all = k .all; count = omega (arith, k .count) }
 
   steps : (question : Question) (y : Test ℤ) → AllOf (InType column) (literalsIn (test y))
       → Returned (numberStep column transform question y) (λ q. Landed (InType to) (2 * length (literalsIn (test y))) (test q))
@@ -69,6 +73,14 @@ module _ (column to : PrimitiveType) (transform : Transform) (r : resultType tra
       (λ q. Landed (InType to) (length (literalsIn (test y))) (test q))
       (λ q. Landed (InType to) (2 * length (literalsIn (test y))) (test q))
       (λ q k. lift-if false (length (literalsIn (test y))) q k)
+      (strict-numbers column (numberUnder column transform) (InType to) gives y x)
+  steps Older y x =
+      returned-map
+      (olderIf (lifted column transform))
+      (strictNumber column (numberUnder column transform) y)
+      (λ q. Landed (InType to) (length (literalsIn (test y))) (test q))
+      (λ q. Landed (InType to) (2 * length (literalsIn (test y))) (test q))
+      (λ q k. older-if (lifted column transform) (length (literalsIn (test y))) q k)
       (strict-numbers column (numberUnder column transform) (InType to) gives y x)
 
 -- a returned predicate's numbers are of the result type, and lifting at most doubles their count
@@ -103,6 +115,7 @@ module _ (question : Question) (column : PrimitiveType) (transform : Transform) 
       → Returned (bytesStep column transform question y) (λ q. Landed h (length (literalsIn (test y))) (test q))
   byte-steps Inclusive y x = inclusive-bytes (bytesUnder column transform) (lengthOf column) (widthOf transform) g h under keeps column y x
   byte-steps Strict y x = strict-bytes (bytesUnder column transform) (lengthOf column) (widthOf transform) g h under keeps y x
+  byte-steps Older y x = strict-bytes (bytesUnder column transform) (lengthOf column) (widthOf transform) g h under keeps y x
 
   land : (leaf x : Predicate (List ℕ)) → AllOf g (literalsIn leaf) → projectBytes question column transform leaf ≡ ok (some x)
       → Landed h (length (literalsIn leaf)) x

@@ -43,11 +43,11 @@ use Rattle.projection.specs.laws.SoundLaws.{Demanded, Sound, tests-sound
 use Rattle.projection.specs.laws.StepLaws.{Returned, returned, returned-by, returned-both, returned-map}
 use Rattle.projection.specs.Steps.{some}
 use Rattle.projection.specs.declared.question.Question.{Question}
-use Rattle.projection.specs.declared.question.Question.the-variants.{Inclusive, Strict}
+use Rattle.projection.specs.declared.question.Question.the-variants.{Inclusive, Strict, Older}
 
 -- ---- numbers
 module _ (column : PrimitiveType) (transform : Transform) where
-  under-mono : (v w p q : ℤ) → numberUnder column transform v ≡ ok p → numberUnder column transform w ≡ ok q → v ≤ℤ w → p ≤ℤ q
+  pub under-mono : (v w p q : ℤ) → numberUnder column transform v ≡ ok p → numberUnder column transform w ≡ ok q → v ≤ℤ w → p ≤ℤ q
   under-mono v w p q a b h =
       number-mono
       column
@@ -58,7 +58,7 @@ module _ (column : PrimitiveType) (transform : Transform) where
       (literal-value (transformNumber column transform) w q .0 b)
       h
 
-  never-missing : bySteps transform ≡ true → (v : ℤ) → transformNumber column transform v ≡ ok missing → ⊥
+  pub never-missing : bySteps transform ≡ true → (v : ℤ) → transformNumber column transform v ≡ ok missing → ⊥
   never-missing h v e = clash h (ap bySteps (number-missing column transform v e))
 
   steps-strict : bySteps transform ≡ true → (leaf : Predicate ℤ) → AllOf (InType column) (literalsIn leaf)
@@ -97,7 +97,7 @@ module _ (column : PrimitiveType) (transform : Transform) where
       (number-step-missing Inclusive column transform x))
 
   -- under Identity a row is its own partition value
-  identity-row : transform ≡ Identity → (r p : Row ℤ) → ofRow (transformNumber column transform) r ≡ ok p → r ≡ p
+  pub identity-row : transform ≡ Identity → (r p : Row ℤ) → ofRow (transformNumber column transform) r ≡ ok p → r ≡ p
   identity-row t r p e = same-row (transformNumber column transform) own r p e
     where
       own : (v : ℤ) (p : Row ℤ) → transformNumber column transform v ≡ ok p → present v ≡ p
@@ -159,6 +159,7 @@ truncated-value question column w x q fine d v p held e = rw (present-inj (ok-in
         → Demanded question (meets bytesTests x v) (meets bytesTests q (truncateBytes column w v))
     go Inclusive d = returned (bytesStep column (Truncate w) Inclusive x) _ (follows (bytes-cutting column w) T gives column x fine) d v held
     go Strict d = returned (bytesStep column (Truncate w) Strict x) _ (leads (bytes-cutting column w) T gives x fine) d v held
+    go Older d = returned (bytesStep column (Truncate w) Older x) _ (leads (bytes-cutting column w) T gives x fine) d v held
 
 module _ (question : Question) (column : PrimitiveType) (transform : Transform) where
   -- projections go by steps under Truncate alone

@@ -2,7 +2,7 @@
 use Prim.Native.Nat.{ℕ, _*_, _≤_}
 use native.Mathlib.Omega.{arith}
 use mathlib.Core.List.{List, [], _∷_}
-use mathlib.Core.Path.{_≡_}
+use mathlib.Core.Path.{_≡_, ap}
 use lib.Dec.{leb}
 use lib.IntN.{ℤ, pos, negsuc, sucℤ, predℤ}
 use lib.ListN.{length}
@@ -23,8 +23,10 @@ use Rattle.values.specs.declared.transform.Transform.the-variants.{Identity}
 use Rattle.partition.specs.code.PartitionAnswers.{InType}
 use Rattle.expr.specs.Operators.{Binary, SetOperator, lessThan, lessThanOrEq, greaterThan, greaterThanOrEq, eq, notEq, startsWith, notStartsWith, isIn, notIn}
 use Rattle.expr.specs.Predicates.{Test, binary, set, Predicate, unary, test, literalsIn}
+use Rattle.expr.specs.laws.HoldsLaws.{opposite}
+use Rattle.projection.specs.laws.OppositeLaws.{older-is, opposite-literals}
 use Rattle.projection.specs.ByteSteps.{Step, byLength, stringStarts, stringNotStarts, binaryStarts, binaryNotStarts, inclusiveBytes, strictBytes}
-use Rattle.projection.specs.Lifting.{withNexts, lift}
+use Rattle.projection.specs.Lifting.{withNexts, lift, older}
 use Rattle.projection.specs.NumberSteps.{inclusiveNumber, strictNumber}
 use Rattle.projection.specs.Projection.{inOrder, through, byTransform}
 use Rattle.projection.specs.laws.ProjectionLaws.{Course, leafItself, stepped, course}
@@ -115,6 +117,14 @@ module _ (h : ℤ → Type 0) (next : (z : ℤ) → z <ℤ pos 0 → h z → h (
     count = omega (arith, length-ascending compareNumbers (withNexts ts), nexts-count ts, k .count);
   }
   lift-lands n (set notIn ts) k = record { all = k .all; count = omega (arith, k .count) }
+
+  same-literals : (n : ℕ) (x y : Test ℤ) → literalsIn (test y) ≡ literalsIn (test x) → Landed h n (test x) → Landed h n (test y)
+  same-literals n x y e k = record { all = rw e (k .all); count = omega (arith, ap length e, k .count) }
+
+  pub older-lands : (n : ℕ) (q : Test ℤ) → Landed h n (test q) → Landed h (2 * n) (test (older q))
+  older-lands n q k =
+      let a = lift-lands n (opposite q) (same-literals n q (opposite q) (opposite-literals q) k) in
+      rw (older-is q) (same-literals (2 * n) (lift (opposite q)) (opposite (lift (opposite q))) (opposite-literals (lift (opposite q))) a)
 
 module _ (column : PrimitiveType) (T : ℤ → Res ℤ) (h : ℤ → Type 0) (gives : (l t : ℤ) → T l ≡ ok t → InType column l → h t) where
   number : (o : Binary) (l : ℤ) → InType column l → Returned (withLiteral o (T l)) (λ q. Landed h 1 (test q))

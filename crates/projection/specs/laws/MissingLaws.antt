@@ -17,14 +17,14 @@ use Rattle.expr.specs.Holds.{missingMeets}
 use Rattle.expr.specs.Operators.{Binary, SetOperator, one, many, lessThan, lessThanOrEq, greaterThan, greaterThanOrEq, eq, notEq, startsWith, notStartsWith, isIn, notIn}
 use Rattle.expr.specs.Predicates.{Test, binary, set, test, byArityIn}
 use Rattle.projection.specs.ByteSteps.{Step, byLength, stringStarts, stringNotStarts, binaryStarts, binaryNotStarts, inclusiveBytes, strictBytes}
-use Rattle.projection.specs.Lifting.{lift, lifted}
+use Rattle.projection.specs.Lifting.{lift, lifted, older, olderIf}
 use Rattle.projection.specs.NumberSteps.{oneBelow, oneAbove, inclusiveNumber, strictNumber}
 use Rattle.projection.specs.Projection.{numberUnder, numberStep, bytesUnder, bytesStep, lengthOf}
 use Rattle.projection.specs.Steps.{some, none, withLiteral, withEach}
 use Rattle.projection.specs.declared.question.Question.{Question}
-use Rattle.projection.specs.declared.question.Question.the-variants.{Inclusive, Strict}
+use Rattle.projection.specs.declared.question.Question.the-variants.{Inclusive, Strict, Older}
 use Rattle.projection.specs.laws.LiftingLaws.{liftIf, returned-lifted}
-use Rattle.projection.specs.laws.StepLaws.{Returned, returned-literal, returned-each, returned-cond, returned-length}
+use Rattle.projection.specs.laws.StepLaws.{Returned, returned-map, returned-literal, returned-each, returned-cond, returned-length}
 
 -- whether a missing value meets a test
 abbrev pub meetsMissing : {A : Type 0} → Test A → Bool
@@ -85,6 +85,24 @@ lifted-missing : (lifts : Bool) (x q : Test ℤ) → SameMissing x q → SameMis
 lifted-missing true x q e = lift-missing q ∙ e
 lifted-missing false x q e = e
 
+older-missing : (q : Test ℤ) → SameMissing q (older q)
+older-missing (binary lessThan t) = refl
+older-missing (binary lessThanOrEq t) = refl
+older-missing (binary greaterThan (pos n)) = refl
+older-missing (binary greaterThan (negsuc n)) = refl
+older-missing (binary greaterThanOrEq t) = refl
+older-missing (binary eq t) = refl
+older-missing (binary notEq (pos n)) = refl
+older-missing (binary notEq (negsuc n)) = refl
+older-missing (binary startsWith t) = refl
+older-missing (binary notStartsWith t) = refl
+older-missing (set isIn ts) = refl
+older-missing (set notIn ts) = refl
+
+older-if-missing : (lifts : Bool) (x q : Test ℤ) → SameMissing x q → SameMissing x (olderIf lifts q)
+older-if-missing true x q e = older-missing q ∙ e
+older-if-missing false x q e = e
+
 pub number-step-missing : (question : Question) (column : PrimitiveType) (transform : Transform) (x : Test ℤ)
     → Returned (numberStep column transform question x) (λ q. SameMissing x q)
 number-step-missing Inclusive column transform x =
@@ -96,6 +114,14 @@ number-step-missing Inclusive column transform x =
     (lifted-missing (lifted column transform) x)
     (inclusive-missing column (numberUnder column transform) x)
 number-step-missing Strict column transform x = strict-missing column (numberUnder column transform) x
+number-step-missing Older column transform x =
+    returned-map
+    (olderIf (lifted column transform))
+    (strictNumber column (numberUnder column transform) x)
+    (λ q. SameMissing x q)
+    (λ q. SameMissing x q)
+    (older-if-missing (lifted column transform) x)
+    (strict-missing column (numberUnder column transform) x)
 
 -- ---- strings and binaries
 module _ (T : List ℕ → Res (List ℕ)) (count : List ℕ → ℕ) (w : ℕ) where
@@ -143,3 +169,4 @@ pub bytes-step-missing : (question : Question) (column : PrimitiveType) (transfo
     → Returned (bytesStep column transform question x) (λ q. SameMissing x q)
 bytes-step-missing Inclusive column transform x = inclusive-bytes-missing (bytesUnder column transform) (lengthOf column) (widthOf transform) column x
 bytes-step-missing Strict column transform x = strict-bytes-missing (bytesUnder column transform) (lengthOf column) (widthOf transform) x
+bytes-step-missing Older column transform x = strict-bytes-missing (bytesUnder column transform) (lengthOf column) (widthOf transform) x

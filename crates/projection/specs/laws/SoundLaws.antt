@@ -14,27 +14,31 @@ use Rattle.projection.specs.laws.ProjectionLaws.{in-order-holds}
 use Rattle.projection.specs.laws.MissingLaws.{SameMissing}
 use Rattle.projection.specs.laws.RowLaws.{unary-row}
 use Rattle.projection.specs.declared.question.Question.{Question}
-use Rattle.projection.specs.declared.question.Question.the-variants.{Inclusive, Strict}
+use Rattle.projection.specs.declared.question.Question.the-variants.{Inclusive, Strict, Older}
 
 -- what is demanded of a row's test and its partition value's
 abbrev pub Demanded : Question → Bool → Bool → Type 0
 Demanded Inclusive row part = row ≡ true → part ≡ true
 Demanded Strict row part = part ≡ true → row ≡ true
+Demanded Older row part = part ≡ true → row ≡ true
 
-demanded-same : (question : Question) {row part : Bool} → row ≡ part → Demanded question row part
+pub demanded-same : (question : Question) {row part : Bool} → row ≡ part → Demanded question row part
 demanded-same Inclusive e = λ m. sym e ∙ m
 demanded-same Strict e = λ m. e ∙ m
+demanded-same Older e = λ m. e ∙ m
 
 module _ {A B : Type 0} (rows : Tests A) (parts : Tests B) (Held : A → Type 0) where
   abbrev pub Sound : Question → (Row A → Res (Row B)) → Predicate A → Predicate B → Type 0
   Sound Inclusive part leaf q = NoRowLost rows parts Held part leaf q
   Sound Strict part leaf q = StrictIsSafe rows parts Held part leaf q
+  Sound Older part leaf q = StrictIsSafe rows parts Held part leaf q
 
   sound-by : (question : Question) (part : Row A → Res (Row B)) (leaf : Predicate A) (q : Predicate B)
       → ((r : Row A) (p : Row B) → RowOf Held part r p → Demanded question (holds rows leaf r) (holds parts q p))
       → Sound question part leaf q
   sound-by Inclusive part leaf q k = k
   sound-by Strict part leaf q k = k
+  sound-by Older part leaf q k = k
 
   module _ (value : A → Res (Row B)) (never : (v : A) → value v ≡ ok missing → ⊥) (question : Question) where
     pub tests-sound : (x : Test A) (q : Test B) → SameMissing x q

@@ -22,7 +22,7 @@ use Rattle.projection.specs.ByteSteps.{Step, byLength, stringStarts, str
 use Rattle.projection.specs.Projection.{through, byTransform, lengthOf, bytesUnder, bytesStep, projectBytes}
 use Rattle.projection.specs.Steps.{Projected, some, literalUnder, valueIn, withLiteral, withEach}
 use Rattle.projection.specs.declared.question.Question.{Question}
-use Rattle.projection.specs.declared.question.Question.the-variants.{Inclusive, Strict}
+use Rattle.projection.specs.declared.question.Question.the-variants.{Inclusive, Strict, Older}
 
 -- ---- before
 module _ (column : PrimitiveType) where
@@ -56,6 +56,7 @@ module _ (column : PrimitiveType) where
     -- 01, of Binary: "strict 207 and 208 as for strings, counting bytes"
     abbrev pub stepBefore : Question → Test (List ℕ) → Step
     stepBefore Strict t = strictBytes underBefore (lengthOf column) (widthOf transform) t
+    stepBefore Older t = strictBytes underBefore (lengthOf column) (widthOf transform) t
     stepBefore Inclusive (binary lessThan l) = inclusiveBefore (binary lessThan l)
     stepBefore Inclusive (binary lessThanOrEq l) = inclusiveBefore (binary lessThanOrEq l)
     stepBefore Inclusive (binary greaterThan l) = inclusiveBefore (binary greaterThan l)
@@ -164,6 +165,7 @@ module _ (column : PrimitiveType) (transform : Transform) where
   step-unchanged : (question : Question) (x : Test (List ℕ)) → Unchanged (stepBefore column transform question x) (bytesStep column transform question x)
   step-unchanged Inclusive x = inclusive-unchanged x
   step-unchanged Strict x = strict-unchanged x
+  step-unchanged Older x = strict-unchanged x
 
 module _ {A : Type 0} (compare : A → A → Ordering) (before now : Test A → Res (Projected (Test A))) (h : (x : Test A) → Unchanged (before x) (now x)) where
   through-unchanged : (leaf : Predicate A) → Unchanged (through before leaf) (through now leaf)

@@ -3,7 +3,7 @@ use denote.Ref.{now}
 use borrow.Author.Needs.{needs}
 use Rattle.values.specs.Outcomes.{row}
 use Rattle.ask.specs.code.Askings.{numberRow}
-use Rattle.ask.proofs.NumberAnswerArms.{one-answered, two-answered, two-above}
+use Rattle.ask.proofs.NumberAnswerArms.{one-answered, two-answered, two-above, two-many}
 use Rattle.ask.proofs.number.test_projected.Statement.{statement}
 use Rattle.ask.proofs.number.test_projected.Tie as tie
 
@@ -11,7 +11,7 @@ test-two-requires : tie.Need-test-two-requires
 test-two-requires c κs =
     let k = c .before in
     let s = k .before .before .before in
-    (s .pre .1, two-above (s .pre .0) (k .p3 .given .1))
+    (s .pre .1, (two-above (s .pre .0) (k .p3 .given .1), two-many (s .pre .0) (k .p3 .given .1)))
 
 returns-2 : tie.Need-returns-2
 returns-2 c = rw (c .before .p .given .1)

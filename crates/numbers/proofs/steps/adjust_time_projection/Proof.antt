@@ -1,11 +1,12 @@
 -- `numbers::steps::adjust_time_projection` meets its contract: the table's three rows below 0, and a number from 0 on as it is. Assumes nothing.
+use mathlib.Core.Path.{refl}
 use lib.IntN.{pos, _+ℤ_}
 use lib.Signed.{_<ℤ_}
 use mir.Syntax.{w64}
 use mir.Val.{SFits}
 use Rattle.values.specs.laws.IntLaws.{ints, plus}
 use Rattle.values.specs.laws.SignedLaws.{lit, lt-taken, lt-left}
-use Rattle.numbers.proofs.StepArms.{lifted-most, lifted-equal, lifted-other, lifted-kept}
+use Rattle.numbers.proofs.StepArms.{lifted-most, lifted-equal, raised-greater, raised-not-equal, lifted-other, lifted-kept}
 use borrow.Author.Needs.{needs}
 use Rattle.numbers.proofs.steps.adjust_time_projection.Statement.{statement}
 use Rattle.numbers.proofs.steps.adjust_time_projection.Tie as tie
@@ -34,14 +35,26 @@ returns-2 : tie.Need-returns-2
 returns-2 c =
     let n = c .before .before in
     let s = n .before in
-    (lifted-equal (s .args .operator) (s .args .t) (s .fits .t) (c .enum-told2 .given .1) (negative n), tt)
+    (lifted-equal (s .args .operator) (s .args .t) (s .fits .t) (c .enum-told2 .given .1) (negative n), refl)
 
 returns-3 : tie.Need-returns-3
-returns-3 c = let s = c .before .before in (lifted-other (s .args .operator) (s .args .t) (s .fits .t) (c .match .keys3), s .pre)
+returns-3 c =
+    let n = c .before .before in
+    let s = n .before in
+    (raised-greater (s .args .operator) (s .args .t) (s .fits .t) (c .enum-told3 .given .1) (negative n) (above-fits n), s .pre)
 
 returns-4 : tie.Need-returns-4
-returns-4 c = let s = c .before in (lifted-kept (s .args .operator) (s .args .t) (s .fits .t) (lt-left (s .fits .t) (lit (pos 0) tt) (c .if1 .left)), s .pre)
+returns-4 c =
+    let n = c .before .before in
+    let s = n .before in
+    (raised-not-equal (s .args .operator) (s .args .t) (s .fits .t) (c .enum-told4 .given .1) (negative n), refl)
+
+returns-5 : tie.Need-returns-5
+returns-5 c = let s = c .before .before in (lifted-other (s .args .operator) (s .args .t) (s .fits .t) (c .match .keys5), s .pre)
+
+returns-6 : tie.Need-returns-6
+returns-6 c = let s = c .before in (lifted-kept (s .args .operator) (s .args .t) (s .fits .t) (lt-left (s .fits .t) (lit (pos 0) tt) (c .if1 .left)), s .pre)
 
 pub adjust-time-projection-spec : {M : Type 1} → statement M
 adjust-time-projection-spec =
-    tie.close (tie.spec add-above (search needs) (search needs) returns returns-2 returns-3 returns-4)
+    tie.close (tie.spec add-above (search needs) (search needs) (search needs) (search needs) returns returns-2 returns-3 returns-4 returns-5 returns-6)

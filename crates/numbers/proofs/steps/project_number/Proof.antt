@@ -17,6 +17,12 @@ returns-2 c = (
   c .truncate-number-strict .ensures .1,
 )
 
+returns-3 : tie.Need-returns-3
+returns-3 c = (
+  rw (c .before .enum-told3 .given .1) (rw (back (c .before .before .before .fits .l)) at (c .truncate-number-older .ensures .0)),
+  c .truncate-number-older .ensures .1,
+)
+
 pub project-number-spec : {M : Type 1} → statement M
 project-number-spec =
     tie.close
@@ -25,5 +31,8 @@ project-number-spec =
     (λ c κs. search seen-inside)
     (search needs)
     (λ c κs. search seen-inside)
+    (search needs)
+    (λ c κs. search seen-inside)
     returns
-    returns-2)
+    returns-2
+    returns-3)

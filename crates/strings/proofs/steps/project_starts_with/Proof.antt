@@ -14,5 +14,7 @@ project-starts-with-spec =
     (search needs)
     (search needs)
     (search needs)
+    (search needs)
+    (λ c. search by-length)
     (λ c. search by-length)
     (λ c. search by-length))
