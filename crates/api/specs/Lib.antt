@@ -2,6 +2,7 @@
 pub mod HoldsTest
 pub mod Routines
 pub mod Demand3
+pub mod OlderDemand
 pub mod UnknownAlone
 pub mod Requests
 pub mod laws

@@ -25,6 +25,7 @@ use Rattle.partition.specs.ResultType.{truncatable, withDays, withHours, result
 use Rattle.expr.specs.Operators.{projectLimit, holdsLimit}
 use Rattle.expr.specs.Holds.{bytesTests}
 use Rattle.expr.specs.Predicates.{Predicate, literalsIn}
+use Rattle.projection.specs.laws.LeafDemand as over-values
 use Rattle.projection.specs.laws.LeafDemand.{HeldIn}
 use Rattle.projection.specs.laws.LandingLaws.{bytes-land, bytes-short, bytes-partition-lands, bytes-partition-short}
 use Rattle.projection.specs.laws.LiteralLaws.{Landed}
@@ -113,6 +114,11 @@ module _ (column : PrimitiveType) (n : ℕ) where
   pub all-both : (ls : List (List ℕ)) → AllOf (HeldIn column) ls → AllOf (Short n) ls → AllOf (ShortIn column n) ls
   all-both [] h k = tt
   all-both (l ∷ ls) h k = ((h .0, k .0), all-both ls (h .1) (k .1))
+
+-- a row of values of the type is one of values that are UTF-8 where they must be
+pub row-held : (column : PrimitiveType) (n : ℕ) (transform : Transform) (r p : Row (List ℕ))
+    → over-values.RowOf (ShortIn column n) (bytesPartition column transform) r p → over-values.RowOf (HeldIn column) (bytesPartition column transform) r p
+row-held column n transform r p h = (row-parts column n r (h .0) .0, h .1)
 
 -- ---- the kind
 module _ (column to : PrimitiveType) (transform : Transform) (n : ℕ) (result : resultType transform column ≡ ok to) where

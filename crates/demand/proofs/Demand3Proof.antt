@@ -7,17 +7,15 @@ use mathlib.Core.Logic.{_⊎_, inl, inr, ⊎-elim}
 use mathlib.Core.Path.{_≡_, refl, sym, ap, _∙_}
 use Rattle.values.specs.code.Places.{AllOf}
 use Rattle.values.specs.Numbered.{find}
-use Rattle.values.specs.Outcomes.{ok, Row}
+use Rattle.values.specs.Outcomes.{ok}
 use Rattle.values.specs.laws.OutcomeLaws.{ok-inj, gone}
 use Rattle.values.specs.Transforms.{transformOf}
 use Rattle.values.specs.Types.{Layout, number, bytes, layout, types, typeNumber}
 use Rattle.values.specs.laws.TypesLaws.{type-number}
 use Rattle.values.specs.declared.datatypes.PrimitiveType.{PrimitiveType}
 use Rattle.values.specs.declared.transform.Transform.{Transform}
-use Rattle.partition.specs.Partition.{bytesPartition}
 use Rattle.expr.specs.Operators.{projectLimit}
 use Rattle.expr.specs.Predicates.{Predicate, literalsIn}
-use Rattle.projection.specs.laws.LeafDemand as over-values
 use Rattle.projection.specs.laws.LeafDemand.{HeldIn}
 use Rattle.projection.specs.laws.LeafDemandLaws.{bytes-no-row-lost, bytes-strict-is-safe}
 use Rattle.projection.specs.Steps.{some}
@@ -29,7 +27,7 @@ use Rattle.sheet.specs.Values.{byLayout}
 use Rattle.answers.specs.Kinds.{Kind, numbers, byteStrings}
 use Rattle.answers.specs.Answers.{projected, projectedLeaf}
 use Rattle.api.specs.Routines.{projectSheet}
-use Rattle.demand.proofs.BytesKindLaws.{bytes-above, bytes-values, row-parts, all-parts, bytes-kind}
+use Rattle.demand.proofs.BytesKindLaws.{bytes-above, bytes-values, all-parts, row-held, bytes-kind}
 use Rattle.demand.proofs.ExactLaws as exact
 use Rattle.demand.proofs.KindLaws.{KindLaws, Returned, returned}
 use Rattle.demand.proofs.NumberKindLaws.{number-known, number-kind}
@@ -104,25 +102,20 @@ module _ {question : Question} {s q : List ℕ} (b : ByBytes question s q) where
   unfolding bytes-kind bytes-values
   literals-held = all-parts (b .column) (b .size) (literalsIn (b .answer .leaf)) (good-leaf (b .answer) (bytesLaw b) .all) .0
 
-  row-held : (r p : Row (List ℕ)) → over-values.RowOf (bytesLaw b .rows .Good) (bytesPartition (b .column) (b .transform)) r p
-      → over-values.RowOf (HeldIn (b .column)) (bytesPartition (b .column) (b .transform)) r p
-  unfolding bytes-kind bytes-values
-  row-held r p h = (row-parts (b .column) (b .size) r (h .0) .0, h .1)
-
 module _ (s q v p : List ℕ) (h : RowOf s p v) where
   bytes-kept : ByBytes Inclusive s q → Accepts s v → Accepts q p
-  unfolding bytes-kind
+  unfolding bytes-kind bytes-values
   bytes-kept b met =
       let a = b .answer in
       let over = bytes-no-row-lost (b .column) (b .transform) (a .leaf) (a .predicate) (literals-held b) (a .project-is) in
-      rows.no-row-lost a (bytesLaw b) v p h (λ r y e m. over r y (row-held b r y e) m) met
+      rows.no-row-lost a (bytesLaw b) v p h (λ r y e m. over r y (row-held (b .column) (b .size) (b .transform) r y e) m) met
 
   bytes-safe : ByBytes Strict s q → Accepts q p → Accepts s v
-  unfolding bytes-kind
+  unfolding bytes-kind bytes-values
   bytes-safe b met =
       let a = b .answer in
       let over = bytes-strict-is-safe (b .column) (b .transform) (a .leaf) (a .predicate) (literals-held b) (a .project-is) in
-      rows.strict-is-safe a (bytesLaw b) v p h (λ r y e m. over r y (row-held b r y e) m) met
+      rows.strict-is-safe a (bytesLaw b) v p h (λ r y e m. over r y (row-held (b .column) (b .size) (b .transform) r y e) m) met
 
 -- ---- the four clauses
 no-row-lost : NoRowLost

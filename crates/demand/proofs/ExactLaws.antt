@@ -6,7 +6,7 @@ use mathlib.Core.List.{List}
 use mathlib.Core.Logic.{_⊎_, inl, inr, ⊎-elim, _↔_}
 use mathlib.Core.Path.{_≡_, refl, sym, ap, subst, _∙_}
 use lib.IntN.{ℤ, sucℤ}
-use Rattle.values.specs.Outcomes.{Row, missing, present}
+use Rattle.values.specs.Outcomes.{ok, Row, missing, present}
 use Rattle.values.specs.laws.OutcomeLaws.{ok-inj}
 use Rattle.values.specs.Types.{number, layout, inType}
 use Rattle.values.specs.laws.WordLaws.{signed-bytes}
@@ -20,16 +20,24 @@ use Rattle.projection.specs.laws.LandingLaws.{number-partition-lands}
 use Rattle.projection.specs.Lifting.{lifted}
 use Rattle.projection.specs.declared.question.Question.{Question}
 use Rattle.projection.specs.declared.question.Question.the-variants.{Inclusive, Strict}
-use Rattle.sheet.specs.Sheets.{Head}
+use Rattle.sheet.specs.Sheets.{Head, head}
 use Rattle.write.specs.Written.{valueRecord, numberBytes}
-use Rattle.api.specs.Demand3.{RowOf, Accepts, SomeRow, AllRows, HoldsNumber, Lifts, OneAbove}
+use Rattle.api.specs.Demand3.{typeIn, transformIn, widthIn, RowOf, Accepts, SomeRow, AllRows, HoldsNumber, Lifts, OneAbove}
 use Rattle.answers.specs.Kinds.{numbers}
 use Rattle.sheet.specs.Values.{mapRow}
-use Rattle.demand.proofs.KindLaws.{KindLaws, Returned}
+use Rattle.demand.proofs.KindLaws.{KindLaws, Returned, good-part}
 use Rattle.demand.proofs.RecordBytes.{record-bytes}
 use Rattle.demand.proofs.NumberKindLaws.{lifted-four, number-known, number-values, number-kind}
 use Rattle.demand.proofs.KindRowLaws as rows
-use Rattle.demand.proofs.KindRowLaws.{reading, good-leaf, Part, part-of, row-of, good-part, meets-predicate, same-part, some-row, all-rows, row-some, rows-all}
+use Rattle.demand.proofs.KindRowLaws.{reading, good-leaf, Part, part-of, row-of, meets-predicate, same-part, some-row, all-rows, row-some, rows-all}
+
+-- what is lifted, by the head of a sheet
+pub head-lifts : (column : PrimitiveType) (transform : Transform) (s : List ℕ)
+    → head (typeIn s) (transformIn s) (widthIn s) ≡ ok (record { column = column; transform = transform }) → Lifts s ↔ (lifted column transform ≡ true)
+head-lifts column transform s head-is = (
+  λ h. subst (λ (x : Head). lifted (x .column) (x .transform) ≡ true) (ok-inj (sym (h .1) ∙ head-is)) (h .2),
+  λ h. (record { column = column; transform = transform }, head-is, h),
+)
 
 -- ---- value records of four bytes
 module _ (to : PrimitiveType) (four : layout to ≡ number 4) where
@@ -40,7 +48,7 @@ module _ (to : PrimitiveType) (four : layout to ≡ number 4) where
   unfolding inType
   holds-number z h = rw four (refl, signed-bytes 4 z (rw four at h))
 
-  number-held : (y : Row ℤ) (z : ℤ) → OfPresent (InType to) y → HoldsNumber (recordOf y) z → y ≡ present z
+  pub number-held : (y : Row ℤ) (z : ℤ) → OfPresent (InType to) y → HoldsNumber (recordOf y) z → y ≡ present z
   number-held missing z h k = let no : ⊥ = omega (arith, k .0) in absurd no
   number-held (present x) z h k = ap present (sym (holds-number x h .1) ∙ k .1)
 
@@ -56,10 +64,7 @@ module _ {column : PrimitiveType} {transform : Transform} {n : ℕ} (is : layout
     law = number-kind column to transform n is known-is (a .result-is)
 
     lifts : Lifts s ↔ (lifted column transform ≡ true)
-    lifts = (
-      λ h. subst (λ (x : Head). lifted (x .column) (x .transform) ≡ true) (ok-inj (sym (h .1) ∙ reading a law .head-is)) (h .2),
-      λ h. (record { column = column; transform = transform }, reading a law .head-is, h),
-    )
+    lifts = head-lifts column transform s (reading a law .head-is)
 
     one-above : (v p : List ℕ) (m : Part a law v p) → lifted column transform ≡ true
         → over-values.OneAbove (InType column) (numberPartition column transform) (a .leaf) (m .part) → OneAbove s p
@@ -68,7 +73,7 @@ module _ {column : PrimitiveType} {transform : Transform} {n : ℕ} (is : layout
         let four = lifted-four column to transform known-is (a .result-is) h in
         let z = f .0 in
         let below = number-partition-lands column to transform (f .3 .0) (present z) (a .result-is) (f .3 .1 .1) (f .3 .1 .0) in
-        let here = subst (OfPresent (InType to)) (f .1) (good-part a law v p m) in
+        let here = subst (OfPresent (InType to)) (f .1) (good-part law v p m) in
         let same : recordOf to four (present (sucℤ z)) ≡ p = ap (recordOf to four) (sym (f .1)) ∙ m .bytes-is in (
           recordOf to four (present z),
           record-bytes to (present z),
@@ -86,7 +91,7 @@ module _ {column : PrimitiveType} {transform : Transform} {n : ℕ} (is : layout
         let four = lifted-four column to transform known-is (a .result-is) h in
         let z = f .2 in
         let held : (u b : List ℕ) (k : Part a law u b) (x : ℤ) → HoldsNumber b x → k .part ≡ present x
-        = λ u b k x i. number-held to four (k .part) x (good-part a law u b k) (subst (λ c. HoldsNumber c x) (sym (k .bytes-is)) i) in
+        = λ u b k x i. number-held to four (k .part) x (good-part law u b k) (subst (λ c. HoldsNumber c x) (sym (k .bytes-is)) i) in
         (z, held v p m (sucℤ z) (f .5), f .4, row-some a law (present z) (f .0) (λ u k. held u (f .0) k z (f .3)) (f .6))
 
   -- ---- exactness

@@ -17,6 +17,7 @@ use Rattle.partition.specs.code.PartitionAnswers.{OfPresent}
 use Rattle.projection.specs.laws.LiteralLaws.{Landed}
 use Rattle.projection.specs.Steps.{Projected, some, none, mapped}
 use Rattle.projection.specs.declared.question.Question.{Question}
+use Rattle.sheet.specs.laws.RecordLaws.{value-read}
 use Rattle.sheet.specs.Records.{value}
 use Rattle.sheet.specs.Sheets.{head, sheet}
 use Rattle.sheet.specs.Values.{eachLiteral, readRow, mapRow, mapLiterals}
@@ -25,7 +26,7 @@ use Rattle.api.specs.Demand3.{typeIn, transformIn, widthIn, RowOf}
 use Rattle.answers.specs.Kinds.{Kind}
 use Rattle.answers.specs.Answers.{projected, transformed, transformedRow}
 use Rattle.api.specs.Routines.{transformValue}
-use Rattle.demand.proofs.ReadBackLaws.{sheetOf, ValueLaws}
+use Rattle.demand.proofs.ReadBackLaws.{sheetOf, ValueLaws, row-good}
 
 -- `to` is the result type
 pub record KindLaws {A B : Type 0} (column to : PrimitiveType) (transform : Transform) (k : Kind A B) : Type 1 where
@@ -62,6 +63,15 @@ pub record HasPart {A B : Type 0} (k : Kind A B) (column to : PrimitiveType) (v 
   pub row-is : readRow (k .read) content ≡ ok row
   pub part-is : k .partition row ≡ ok part
   pub bytes-is : valueRecord (mapRow (k .write to) part) ≡ p
+
+-- both are of their types
+module _ {A B : Type 0} {k : Kind A B} {column to : PrimitiveType} {transform : Transform} (law : KindLaws column to transform k) (v p : List ℕ)
+    (m : HasPart k column to v p) where
+  pub good-row : OfPresent (law .rows .Good) (m .row)
+  good-row = row-good (law .rows) (m .content) (m .row) (value-read column v (m .content) (m .value-is) .fit) (m .row-is)
+
+  pub good-part : OfPresent (law .parts .Good) (m .part)
+  good-part = law .part-good (m .row) (m .part) good-row (m .part-is)
 
 mapped-some : {P Q : Type 0} (f : P → Q) (r : Projected P) {q : Q} → ok (mapped f r) ≡ ok (some q) → (p : P) × (r ≡ some p) × (f p ≡ q)
 mapped-some f (some p) e = (p, refl, cc)

@@ -17,15 +17,14 @@ use Rattle.partition.specs.code.PartitionAnswers.{OfPresent}
 use Rattle.projection.specs.laws.LeafDemand as over-values
 use Rattle.projection.specs.laws.LiteralLaws.{Landed}
 use Rattle.projection.specs.declared.question.Question.{Question}
-use Rattle.sheet.specs.laws.RecordLaws.{value-read}
 use Rattle.sheet.specs.Records.{recordSize}
 use Rattle.sheet.specs.laws.SheetLaws.{Read, sheet-read, wider}
 use Rattle.api.specs.Demand3.{RowOf, Accepts, SomeRow, AllRows}
 use Rattle.api.specs.HoldsTest.{holdsTest}
 use Rattle.answers.specs.Kinds.{Kind}
 use Rattle.sheet.specs.Values.{mapRow}
-use Rattle.demand.proofs.KindLaws.{KindLaws, Returned, HasPart, row-part, part-row}
-use Rattle.demand.proofs.ReadBackLaws.{sheetOf, row-good, leaf-good, rowRecord, row-back, record-back, record-inj, sheet-length, holds-read, holds-written}
+use Rattle.demand.proofs.KindLaws.{KindLaws, Returned, HasPart, good-row, good-part, row-part, part-row}
+use Rattle.demand.proofs.ReadBackLaws.{sheetOf, leaf-good, rowRecord, row-back, record-back, record-inj, sheet-length, holds-read, holds-written}
 
 accepted : {r : Res Bool} {b : Bool} → r ≡ ok b → (r ≡ ok true) ↔ (b ≡ true)
 accepted e = (λ h. ok-inj (sym e ∙ h), λ h. e ∙ ap ok h)
@@ -53,33 +52,32 @@ module _ {A B : Type 0} {k : Kind A B} {column : PrimitiveType} {transform : Tra
   pub part-of : (v p : List ℕ) → RowOf s p v → Part v p
   part-of v p h = row-part law s v p (reading .head-is) h
 
+  -- the predicate of the record of a value that is of the result type
+  pub meets-written : (y : Row B) (p : List ℕ) → OfPresent (law .parts .Good) y → rowRecord (law .parts) y ≡ p
+      → Accepts q p ↔ (holds (law .partTests) (a .predicate) y ≡ true)
+  meets-written y p good is =
+      accepted (ap₂ holdsTest (sym (a .bytes-is)) (sym is) ∙ holds-written (law .parts) (a .predicate) y good-predicate good)
+
   module _ (v p : List ℕ) (m : Part v p) where
-    pub good-row : OfPresent (law .rows .Good) (m .row)
-    good-row = row-good (law .rows) (m .content) (m .row) (value-read column v (m .content) (m .value-is) .fit) (m .row-is)
-
-    pub good-part : OfPresent (law .parts .Good) (m .part)
-    good-part = law .part-good (m .row) (m .part) good-row (m .part-is)
-
     pub meets-leaf : Accepts s v ↔ (holds (law .rowTests) (a .leaf) (m .row) ≡ true)
     meets-leaf =
         accepted (holds-read (law .rows) s v transform (a .content) (m .content) (a .leaf) (m .row)
         (wider projectLimit s holdsLimit _ (a .sheet-is) (omega arith)) (m .value-is) (a .leaf-is) (m .row-is))
 
     pub meets-predicate : Accepts q p ↔ (holds (law .partTests) (a .predicate) (m .part) ≡ true)
-    meets-predicate =
-        accepted (ap₂ holdsTest (sym (a .bytes-is)) (sym (m .bytes-is)) ∙ holds-written (law .parts) (a .predicate) (m .part) good-predicate good-part)
+    meets-predicate = meets-written (m .part) p (good-part law v p m) (m .bytes-is)
 
   -- two value records with the same partition value's record have the same partition value
   pub same-part : (u v p : List ℕ) (m : Part u p) (n : Part v p) → m .part ≡ n .part
   same-part u v p m n =
-      record-inj (law .parts) (m .part) (n .part) (good-part u p m) (good-part v p n) (m .bytes-is ∙ sym (n .bytes-is))
+      record-inj (law .parts) (m .part) (n .part) (good-part law u p m) (good-part law v p n) (m .bytes-is ∙ sym (n .bytes-is))
 
   -- r is a row of y, over values
   abbrev Row-of : Row A → Row B → Type 0
   Row-of r y = over-values.RowOf (law .rows .Good) (k .partition) r y
 
   pub row-of : (v p : List ℕ) (m : Part v p) → Row-of (m .row) (m .part)
-  row-of v p m = (good-row v p m, m .part-is)
+  row-of v p m = (good-row law v p m, m .part-is)
 
   -- ---- nothing is lost, if nothing is over values
   module _ (v p : List ℕ) (h : RowOf s p v) where
@@ -129,10 +127,10 @@ module _ {A B : Type 0} {k : Kind A B} {column : PrimitiveType} {transform : Tra
       → (r : Row A) × Row-of r y × (holds (law .rowTests) (a .leaf) r ≡ true)
   row-some y p same f =
       let m = part-of (f .0) p (f .2) in
-      (m .row, (good-row (f .0) p m, m .part-is ∙ ap ok (same (f .0) m)), meets-leaf (f .0) p m .0 (f .3))
+      (m .row, (good-row law (f .0) p m, m .part-is ∙ ap ok (same (f .0) m)), meets-leaf (f .0) p m .0 (f .3))
 
   pub rows-all : (y : Row B) (p : List ℕ) → ((u : List ℕ) (m : Part u p) → m .part ≡ y)
       → ((r : Row A) → Row-of r y → holds (law .rowTests) (a .leaf) r ≡ true) → AllRows s p
   rows-all y p same f u b h =
       let m = part-of u p h in
-      meets-leaf u p m .1 (f (m .row) (good-row u p m, m .part-is ∙ ap ok (same u m)))
+      meets-leaf u p m .1 (f (m .row) (good-row law u p m, m .part-is ∙ ap ok (same u m)))

@@ -1,4 +1,5 @@
--- The proof of demand 3 over bytes: that the demand is about something, what it rests on, and the theorem; and that 7 is Unknown's alone.
+-- The proof of demand 3 over bytes: that the demand is about something, what it rests on, and the theorem; that 7 is Unknown's alone; and the proof for files of
+-- older writers.
 pub mod RecordBytes
 pub mod Witnesses
 pub mod ReadBackLaws
@@ -11,3 +12,6 @@ pub mod Demand3Proof
 pub mod BufferLaws
 pub mod StepRefusalLaws
 pub mod UnknownProof
+pub mod FilingLaws
+pub mod OlderProof
+pub mod OlderWitnesses
