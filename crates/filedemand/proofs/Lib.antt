@@ -13,3 +13,5 @@ pub mod PoolFiles
 pub mod PoolBytes
 pub mod PoolDemandProof
 pub mod PoolWitnesses
+pub mod OlderFileProof
+pub mod OlderFileWitnesses
