@@ -1,8 +1,10 @@
--- Filters lose nothing, over the bytes of the routines: every leaf is fitted, each fitted leaf loses nothing, and so the whole. Assumes nothing.
+-- Filters lose nothing, over the bytes of the routines, in files of older writers too: every leaf is fitted, each fitted leaf loses nothing, and so the whole.
+-- Assumes nothing.
 use Prim.Native.Nat.{ℕ, _*_, _≤_}
 use native.Mathlib.Omega.{arith}
 use mathlib.Core.Bool.{Bool, true}
 use mathlib.Core.List.{List, map, List·Memᴰ as Isin, List·Memᴰ·head as here, Memᴰ·append-left as isin-left, Memᴰ·append-right as isin-right}
+use mathlib.Core.Logic.{inl}
 use mathlib.Core.Path.{_≡_, refl, sym, ap, subst, _∙_}
 use Rattle.values.specs.Outcomes.{ok}
 use Rattle.values.specs.laws.OutcomeLaws.{ok-inj, going, gone}
@@ -17,6 +19,7 @@ use Rattle.sheet.specs.Sheets.{Head, head, sheet}
 use Rattle.meets.specs.Tested.{testedSheet}
 use Rattle.answers.specs.Answers.{projectedLeaf}
 use Rattle.api.specs.Demand3.{typeIn, transformIn, widthIn, RowOf}
+use Rattle.api.specs.OlderDemand.{Filed}
 use Rattle.api.specs.HoldsTest.{holdsTest}
 use Rattle.api.specs.Routines.{projectSheet}
 use Rattle.columns.specs.Cells.{Side, rows, parts, Cell, cellsOf}
@@ -24,8 +27,9 @@ use Rattle.columns.specs.Columns.{Column, nameSize, entrySize, entryAt}
 use Rattle.grammar.specs.Filters.{Filter, leaf, either, both, opposite, bracket, straight, answered}
 use Rattle.leaves.specs.Fitting.{Leaf}
 use Rattle.ask.specs.LeafAnswers.{predicateIn, rowAnswer, partAnswer}
-use Rattle.filter.specs.FilterDemand.{headAt, placesIn, Rows, Kept, FilterLosesNoRow, FilterStrictIsSafe, sheetIn, byReturned}
+use Rattle.filter.specs.FilterDemand.{headAt, placesIn, Kept, FilterLosesNoRow, FilterStrictIsSafe, sheetIn, byReturned}
 use Rattle.filter.specs.FilterDemand.{OneLeafRow, OneLeafParts, FiltersLoseNothing}
+use Rattle.filter.specs.OlderFilterDemand.{FilterLosesNoOlderRow}
 use Rattle.parse.specs.FilterText.{filterIn, turn}
 use Rattle.filter.specs.FilterRoutines.{filterRow, filterParts}
 use Rattle.demand.proofs.ReadBackLaws.{sheetOf}
@@ -34,7 +38,7 @@ use Rattle.filterdemand.proofs.FittedLaws.{Fitted, leaf-fitted, turn-fi
 use Rattle.filterdemand.proofs.FoundLaws.{filter-every}
 use Rattle.filterdemand.proofs.JoinedLaws.{EveryLeaf, EveryTurned, straight-every, turned-map, every-both}
 use Rattle.filterdemand.proofs.JoinedLaws.{Follows, follows-kept, answered-follows, Leads, leads-yes, answered-leads}
-use Rattle.filterdemand.proofs.LeafAnswerLaws.{leaf-sound, leaf-returned}
+use Rattle.filterdemand.proofs.LeafAnswerLaws.{leaf-follows, leaf-leads, leaf-returned}
 use Rattle.filterdemand.proofs.LeafSheetLaws.{held-whole, numbers, heldTransform, sheet-back}
 
 abbrev pub columnsOf : List Cell → List Column
@@ -64,79 +68,90 @@ module _ (side : Side) (c v : List ℕ) (cells : List Cell) (e : cellsOf side c 
   pub leaf-cell : CellAt side v cells (l .place) (withHead (l .head))
   leaf-cell = subst (λ h. CellAt side v cells (l .place) (withHead h)) (f .head-is) (cell-at side c v cells e (l .place) (f .column) (f .there))
 
--- ---- whole filters
-module _ (c t v p : List ℕ) (h : Rows c t v p) where
+-- ---- whole filters: a row v, and the records p that are asked
+module _ (c t v p : List ℕ) (cells others : List Cell) (row-cells : cellsOf rows c v ≡ ok cells) (part-cells : cellsOf parts c p ≡ ok others) where
   abbrev cs : List Column
-  cs = columnsOf (h .cells)
+  cs = columnsOf cells
 
-  same-columns : columnsOf (h .others) ≡ cs
-  same-columns = ok-inj (sym (cells-columns parts c p (h .others) (h .part-cells)) ∙ cells-columns rows c v (h .cells) (h .row-cells))
-
-  abbrev Sound : Leaf → Type 0
-  Sound l = Follows (rowAnswer (h .cells) l) (partAnswer Inclusive (h .others) l) × Leads (rowAnswer (h .cells) l) (partAnswer Strict (h .others) l)
-
-  abbrev IsRow : ℕ → Type 0
-  IsRow k = RowOf (headAt c k) (recordAt p k) (recordAt v k)
-
-  one-sound : (l : Leaf) → Fitted cs l × IsRow (l .place) → Sound l
-  one-sound l k =
-      let f = k .0 in
-      let other = subst (λ ds. Fitted ds l) (sym same-columns) f in
-      leaf-sound l (f .content-fits) (h .cells) (h .others) (headAt c (l .place)) (recordAt v (l .place)) (recordAt p (l .place))
-      (leaf-head rows c v (h .cells) (h .row-cells) l f) (k .1)
-      (leaf-cell rows c v (h .cells) (h .row-cells) l f .value-is)
-      (leaf-cell parts c p (h .others) (h .part-cells) l other .value-is)
-
-  all-sound : (f : Filter Leaf) → filterIn cs t ≡ ok f → EveryTurned Sound (straight turn f)
-  all-sound f e =
-      let both = every-both (Fitted cs) (λ l. IsRow (l .place)) f (all-fitted cs t f e) (named-every IsRow f (h .named f e)) in
-      let turned = straight-every (λ l. Fitted cs l × IsRow (l .place)) turn (λ l k. (turn-fitted cs l (k .0), k .1)) f both in
-      turned-map (λ l. Fitted cs l × IsRow (l .place)) Sound one-sound (straight turn f) (turned .0)
+  same-columns : columnsOf others ≡ cs
+  same-columns = ok-inj (sym (cells-columns parts c p others part-cells) ∙ cells-columns rows c v cells row-cells)
 
   -- what the filter is answered, once it is found
-  row-is : (f : Filter Leaf) → filterIn cs t ≡ ok f → filterRow c t v ≡ answered (rowAnswer (h .cells)) (straight turn f)
+  row-is : (f : Filter Leaf) → filterIn cs t ≡ ok f → filterRow c t v ≡ answered (rowAnswer cells) (straight turn f)
   unfolding filterRow
-  row-is f e = going _ (h .row-cells) ∙ going _ e
+  row-is f e = going _ row-cells ∙ going _ e
 
   parts-is : (question : Question) (f : Filter Leaf) → filterIn cs t ≡ ok f
-      → filterParts question c t p ≡ answered (partAnswer question (h .others)) (straight turn f)
+      → filterParts question c t p ≡ answered (partAnswer question others) (straight turn f)
   unfolding filterParts
-  parts-is question f e = going _ (h .part-cells) ∙ going _ (ap (λ ds. filterIn ds t) same-columns ∙ e)
+  parts-is question f e = going _ part-cells ∙ going _ (ap (λ ds. filterIn ds t) same-columns ∙ e)
 
   row-found : {b : Bool} → filterRow c t v ≡ ok b → (f : Filter Leaf) × (filterIn cs t ≡ ok f)
   unfolding filterRow
-  row-found e = let f = gone (filterIn cs t) _ (sym (going _ (h .row-cells)) ∙ e) in (f .0, f .1)
+  row-found e = let f = gone (filterIn cs t) _ (sym (going _ row-cells) ∙ e) in (f .0, f .1)
 
   parts-found : (question : Question) {b : Bool} → filterParts question c t p ≡ ok b → (f : Filter Leaf) × (filterIn cs t ≡ ok f)
   unfolding filterParts
   parts-found question e =
-      let f = gone (filterIn (columnsOf (h .others)) t) _ (sym (going _ (h .part-cells)) ∙ e) in
+      let f = gone (filterIn (columnsOf others) t) _ (sym (going _ part-cells) ∙ e) in
       (f .0, ap (λ ds. filterIn ds t) (sym same-columns) ∙ f .1)
 
-  kept : filterRow c t v ≡ ok true → Kept (filterParts Inclusive c t p)
-  kept e =
+  -- what is so of the records at each place that a leaf names
+  abbrev Named : (List ℕ → List ℕ → List ℕ → Type 0) → Type 0
+  Named at = (f : Filter Leaf) → filterIn cs t ≡ ok f → (k : ℕ) → Isin k (placesIn f) → at (headAt c k) (recordAt p k) (recordAt v k)
+
+  -- is so of each leaf, turned or not
+  every-leaf : (at : List ℕ → List ℕ → List ℕ → Type 0) (g : Leaf → Type 0) → Named at
+      → ((l : Leaf) → Fitted cs l → at (headAt c (l .place)) (recordAt p (l .place)) (recordAt v (l .place)) → g l)
+      → (f : Filter Leaf) → filterIn cs t ≡ ok f → EveryTurned g (straight turn f)
+  every-leaf at g named one f e =
+      let here : ℕ → Type 0 = λ k. at (headAt c k) (recordAt p k) (recordAt v k) in
+      let both = every-both (Fitted cs) (λ l. here (l .place)) f (all-fitted cs t f e) (named-every here f (named f e)) in
+      let turned = straight-every (λ l. Fitted cs l × here (l .place)) turn (λ l k. (turn-fitted cs l (k .0), k .1)) f both in
+      turned-map (λ l. Fitted cs l × here (l .place)) g (λ l k. one l (k .0) (k .1)) (straight turn f) (turned .0)
+
+  module _ (l : Leaf) (f : Fitted cs l) where
+    other : Fitted (columnsOf others) l
+    other = subst (λ ds. Fitted ds l) (sym same-columns) f
+
+    one-follows : Filed (headAt c (l .place)) (recordAt p (l .place)) (recordAt v (l .place)) → Follows (rowAnswer cells l) (partAnswer Inclusive others l)
+    one-follows d =
+        leaf-follows l (f .content-fits) cells others (headAt c (l .place)) (recordAt v (l .place)) (recordAt p (l .place)) (leaf-head rows c v cells row-cells l f)
+        (leaf-cell rows c v cells row-cells l f .value-is) (leaf-cell parts c p others part-cells l other .value-is) d
+
+    one-leads : RowOf (headAt c (l .place)) (recordAt p (l .place)) (recordAt v (l .place)) → Leads (rowAnswer cells l) (partAnswer Strict others l)
+    one-leads h =
+        leaf-leads l (f .content-fits) cells others (headAt c (l .place)) (recordAt v (l .place)) (recordAt p (l .place)) (leaf-head rows c v cells row-cells l f)
+        (leaf-cell rows c v cells row-cells l f .value-is) (leaf-cell parts c p others part-cells l other .value-is) h
+
+  kept : Named Filed → filterRow c t v ≡ ok true → Kept (filterParts Inclusive c t p)
+  kept named e =
       let f = row-found e in
-      let row = rowAnswer (h .cells) in
-      let part = partAnswer Inclusive (h .others) in
+      let row = rowAnswer cells in
+      let part = partAnswer Inclusive others in
       let asked = straight turn (f .0) in
-      let follows = answered-follows row part asked (turned-map Sound _ (λ l k. k .0) asked (all-sound (f .0) (f .1))) in
+      let follows = answered-follows row part asked (every-leaf Filed _ named one-follows (f .0) (f .1)) in
       let yes : answered row asked ≡ ok true = sym (row-is (f .0) (f .1)) ∙ e in
       subst Kept (sym (parts-is Inclusive (f .0) (f .1))) (follows-kept (answered row asked) (answered part asked) follows yes)
 
-  safe : filterParts Strict c t p ≡ ok true → filterRow c t v ≡ ok true
-  safe e =
+  safe : Named RowOf → filterParts Strict c t p ≡ ok true → filterRow c t v ≡ ok true
+  safe named e =
       let f = parts-found Strict e in
-      let row = rowAnswer (h .cells) in
-      let part = partAnswer Strict (h .others) in
+      let row = rowAnswer cells in
+      let part = partAnswer Strict others in
       let asked = straight turn (f .0) in
-      let leads = answered-leads row part asked (turned-map Sound _ (λ l k. k .1) asked (all-sound (f .0) (f .1))) in
+      let leads = answered-leads row part asked (every-leaf RowOf _ named one-leads (f .0) (f .1)) in
       row-is (f .0) (f .1) ∙ leads-yes (answered row asked) (answered part asked) leads (sym (parts-is Strict (f .0) (f .1)) ∙ e)
 
+pub loses-no-older-row : FilterLosesNoOlderRow
+loses-no-older-row c t v p h e = kept c t v p (h .cells) (h .others) (h .row-cells) (h .part-cells) (h .named) e
+
+-- a row may be filed under its own partition values
 loses-no-row : FilterLosesNoRow
-loses-no-row c t v p h e = kept c t v p h e
+loses-no-row c t v p h e = kept c t v p (h .cells) (h .others) (h .row-cells) (h .part-cells) (λ f d k m. inl (h .named f d k m)) e
 
 strict-is-safe : FilterStrictIsSafe
-strict-is-safe c t v p h e = safe c t v p h e
+strict-is-safe c t v p h e = safe c t v p (h .cells) (h .others) (h .row-cells) (h .part-cells) (h .named) e
 
 -- ---- a filter of one leaf
 module _ (side : Side) (c v : List ℕ) (cells : List Cell) (a : cellsOf side c v ≡ ok cells) (l : Leaf) (f : Fitted (columnsOf cells) l) where

@@ -47,15 +47,15 @@ use Rattle.filter.specs.FilterRoutines.{filterRow, filterParts}
 use Rattle.filter.specs.NotOfLeaf.{LeafAndNot}
 
 -- ---- an Int column a under Truncate 10 and a String column s under Truncate 2, the row 5 and abc, and its partition values 0 and ab
-abbrev entry : List ℕ → ℕ → ℕ → List ℕ
-entry name type width =
+abbrev pub entry : List ℕ → ℕ → ℕ → ℕ → List ℕ
+entry name type transform width =
     name ++ replicate (nameSize - length name) 0
-    ++ leBytes 4 0 ++ leBytes 1 type ++ leBytes 1 1 ++ leBytes 2 0 ++ leBytes 4 width ++ replicate (recordSize - headSize) 0
+    ++ leBytes 4 0 ++ leBytes 1 type ++ leBytes 1 transform ++ leBytes 2 0 ++ leBytes 4 width ++ replicate (recordSize - headSize) 0
 
 abbrev list : List ℕ
-list = entry (ascii "a") 1 10 ++ entry (ascii "s") 9 2
+list = entry (ascii "a") 1 1 10 ++ entry (ascii "s") 9 1 2
 
-abbrev int : ℤ → List ℕ
+abbrev pub int : ℤ → List ℕ
 int z = signedBytes 4 z
 
 abbrev row : List ℕ
@@ -96,7 +96,7 @@ unfolding transformValue head transformOf value content transformedRow resultTyp
 is-row = (refl, refl)
 
 -- a text that names columns 0 and 1, as often as it likes
-isin-all : (g : ℕ → Type 0) (ks : List ℕ) → AllOf g ks → (k : ℕ) → Isin k ks → g k
+pub isin-all : (g : ℕ → Type 0) (ks : List ℕ) → AllOf g ks → (k : ℕ) → Isin k ks → g k
 isin-all g [] h k m = absurd (not-nil m)
 isin-all g (i ∷ ks) h k m = ⊎-elim (λ e. subst g (sym e) (h .0)) (λ n. isin-all g ks (h .1) k n) (cases-cons m)
 

@@ -1,9 +1,12 @@
--- A fitted leaf: its answers by a row and by that row's partition value, and by any partition record and by what its projection returns. Assumes nothing.
+-- A fitted leaf: its answers by a row and by the record that the row is filed under, and by any partition record and by what its projection returns. Assumes
+-- nothing.
 use Prim.Native.Nat.{ℕ}
 use native.Mathlib.Omega.{arith}
 use mathlib.Core.Bool.{Bool, true}
 use mathlib.Core.List.{List}
+use mathlib.Core.Logic.{⊎-elim}
 use mathlib.Core.Path.{_≡_, refl, sym, subst, _∙_}
+use lib.IntN.{ℤ}
 use Rattle.values.specs.Outcomes.{Res, ok, Row}
 use Rattle.values.specs.laws.OutcomeLaws.{passing, going, gone}
 use Rattle.values.specs.Types.{Layout, number, bytes, layout}
@@ -22,11 +25,11 @@ use Rattle.projection.specs.declared.question.Question.{Question}
 use Rattle.projection.specs.declared.question.Question.the-variants.{Inclusive, Strict}
 use Rattle.sheet.specs.Records.{value}
 use Rattle.sheet.specs.Sheets.{head}
-use Rattle.sheet.specs.Values.{readNumber, readBytes, eachLiteral, readRow, byLayout}
-use Rattle.meets.specs.Tested.{testedSheet}
+use Rattle.sheet.specs.Values.{readNumber, readBytes, readRow, byLayout}
 use Rattle.answers.specs.Answers.{projected, projectedLeaf, transformed, transformedRow}
 use Rattle.answers.specs.Kinds.{Kind, numbers, byteStrings}
 use Rattle.api.specs.Demand3.{typeIn, transformIn, widthIn, RowOf}
+use Rattle.api.specs.OlderDemand.{Filed}
 use Rattle.api.specs.Routines.{transformValue}
 use Rattle.columns.specs.Cells.{typeOr, Cell}
 use Rattle.leaves.specs.Fitting.{Leaf}
@@ -35,11 +38,11 @@ use Rattle.filter.specs.FilterDemand.{byReturned}
 use Rattle.demand.proofs.BytesKindLaws.{bytes-kind}
 use Rattle.demand.proofs.KindLaws.{KindLaws, row-part}
 use Rattle.demand.proofs.NumberKindLaws.{number-known, number-kind}
-use Rattle.demand.proofs.ReadBackLaws.{sheetOf}
 use Rattle.filterdemand.proofs.FittedLaws.{FitsIn}
 use Rattle.filterdemand.proofs.JoinedLaws.{Follows, Leads}
 use Rattle.filterdemand.proofs.BothKindsLaws.{number-leaf, bytes-leaf}
-use Rattle.filterdemand.proofs.LeafKindLaws.{LeafLaws, part-held, leaf-follows, leaf-leads, by-part-returned}
+use Rattle.filterdemand.proofs.LeafKindLaws as kinds
+use Rattle.filterdemand.proofs.LeafKindLaws.{LeafLaws, part-held, by-part-returned}
 
 -- ---- a row that has a partition value has a result type, and its transform is known
 pub record Known (column : PrimitiveType) (transform : Transform) : Type 0 where
@@ -72,6 +75,10 @@ module _ (column : PrimitiveType) (transform : Transform) where
   unfolding transformValue
   value-known s v p head-is h = let r = gone (value (layout column) v) _ (sym (going _ head-is) ∙ h) in row-known (r .0) p (r .2)
 
+  filed-known : (s v p : List ℕ) → head (typeIn s) (transformIn s) (widthIn s) ≡ ok (record { column = column; transform = transform })
+      → Filed s p v → Known column transform
+  filed-known s v p head-is d = ⊎-elim (λ h. value-known s v p head-is h) (λ x. value-known s v (x .1 .0) head-is (x .1 .2)) d
+
 module _ (l : Leaf) (fits : FitsIn (l .head .column) (l .content)) where
   abbrev column : PrimitiveType
   column = l .head .column
@@ -82,47 +89,46 @@ module _ (l : Leaf) (fits : FitsIn (l .head .column) (l .content)) where
   bytes-read : readBytes column (l .content) ≡ ok (l .content)
   bytes-read = passing NotUtf8 _ (fits .held)
 
-  -- ---- a row and its partition value
-  module _ (cells others : List Cell) (s v p : List ℕ) (head-is : head (typeIn s) (transformIn s) (widthIn s) ≡ ok (l .head)) (is-row : RowOf s p v)
+  -- ---- a row, and a record that it is filed under
+  module _ (cells others : List Cell) (s v p : List ℕ) (head-is : head (typeIn s) (transformIn s) (widthIn s) ≡ ok (l .head))
       (value-is : value (layout column) v ≡ ok (rowAt cells (l .place)))
       (part-is : value (layout (typeOr column (resultType transform column))) p ≡ ok (rowAt others (l .place))) where
-    abbrev has : Known column transform
-    has = value-known column transform s v p head-is is-row
-
-    abbrev Sound : {A B : Type 0} → Kind A B → Type 0
-    Sound k =
-        let row = testedSheet (sheetOf column transform (predicateIn l)) (rowAt cells (l .place)) in
-        let part : Question → Res Bool = λ question. byPart k column transform question (predicateIn l) (rowAt others (l .place)) in
-        Follows row (part Inclusive) × Leads row (part Strict)
-
-    by-kind : {A B : Type 0} {k : Kind A B} (law : KindLaws column (has .to) transform k) → LeafLaws law → (x : A) → k .read (l .content) ≡ ok x → Sound k
-    by-kind {A} {B} {k} law more x read-is =
-        let leaf = test (binary (l .operator) x) in
-        let leaf-is : eachLiteral (k .read) (predicateIn l) ≡ ok leaf = going _ read-is in
-        let m = row-part law s v p head-is is-row in
-        let part = subst (λ t. value (layout (typeOr column t)) p ≡ ok (rowAt others (l .place))) (has .result) part-is in
-        let good = law .rows .reads (l .content) x (fits .fit) read-is in (
-          leaf-follows law more (predicateIn l) leaf leaf-is v p m _ _ value-is part (good, tt) (more .refusals (l .operator) x),
-          leaf-leads law more (predicateIn l) leaf leaf-is v p m _ _ value-is part (good, tt),
-        )
-
-    pub leaf-sound : Follows (rowAnswer cells l) (partAnswer Inclusive others l) × Leads (rowAnswer cells l) (partAnswer Strict others l)
-    unfolding rowAnswer partAnswer
-    leaf-sound = go (layout column) refl
+    -- what the record is answered, by the leaf's kind
+    by-kind : (question : Question) (P : Res Bool → Type 0) (has : Known column transform)
+        → ((A B : Type 0) (k : Kind A B) (law : KindLaws column (has .to) transform k) → LeafLaws law → (x : A) → k .read (l .content) ≡ ok x
+        → P (byPart k column transform question (predicateIn l) (rowAt others (l .place))))
+        → P (partAnswer question others l)
+    unfolding partAnswer
+    by-kind question P has f = go (layout column) refl
       where
-        asked : Layout → Question → Res Bool
-        asked lay question =
-            byLayout lay
-            (λ n. byPart (numbers column transform n) column transform question (predicateIn l) (rowAt others (l .place)))
-            (byPart (byteStrings column transform) column transform question (predicateIn l) (rowAt others (l .place)))
-
-        go : (lay : Layout) → layout column ≡ lay → Follows (rowAnswer cells l) (asked lay Inclusive) × Leads (rowAnswer cells l) (asked lay Strict)
+        go : (lay : Layout) → layout column ≡ lay
+            → P (byLayout lay (λ n. byPart (numbers column transform n) column transform question (predicateIn l) (rowAt others (l .place)))
+            (byPart (byteStrings column transform) column transform question (predicateIn l) (rowAt others (l .place))))
         go (number n) is =
-            let law = number-kind column (has .to) transform n is (has .is-known) (has .result) in
-            by-kind law (number-leaf column (has .to) transform n (has .result) is (has .is-known)) (signed n (leNumber (l .content))) refl
+            f ℤ ℤ (numbers column transform n) (number-kind column (has .to) transform n is (has .is-known) (has .result))
+            (number-leaf column (has .to) transform n (has .result) is (has .is-known)) (signed n (leNumber (l .content))) refl
         go (bytes n) is =
-            let law = bytes-kind column (has .to) transform n is (has .result) in
-            by-kind law (bytes-leaf column (has .to) transform n (has .result) is) (l .content) bytes-read
+            f (List ℕ) (List ℕ) (byteStrings column transform) (bytes-kind column (has .to) transform n is (has .result))
+            (bytes-leaf column (has .to) transform n (has .result) is) (l .content) bytes-read
+
+    part-read : (has : Known column transform) → value (layout (has .to)) p ≡ ok (rowAt others (l .place))
+    part-read has = subst (λ t. value (layout (typeOr column t)) p ≡ ok (rowAt others (l .place))) (has .result) part-is
+
+    pub leaf-follows : Filed s p v → Follows (rowAnswer cells l) (partAnswer Inclusive others l)
+    unfolding rowAnswer
+    leaf-follows d =
+        let has = filed-known column transform s v p head-is d in
+        by-kind Inclusive (Follows (rowAnswer cells l)) has (λ A B k law more x read-is.
+        kinds.leaf-follows law more (predicateIn l) (test (binary (l .operator) x)) (going _ read-is) (law .rows .reads (l .content) x (fits .fit) read-is, tt) v p _ _
+        value-is (part-read has) (more .filing .filed s v p head-is d) (more .refusals (l .operator) x))
+
+    pub leaf-leads : RowOf s p v → Leads (rowAnswer cells l) (partAnswer Strict others l)
+    unfolding rowAnswer
+    leaf-leads h =
+        let has = value-known column transform s v p head-is h in
+        by-kind Strict (Leads (rowAnswer cells l)) has (λ A B k law more x read-is.
+        kinds.leaf-leads law more (predicateIn l) (test (binary (l .operator) x)) (going _ read-is) (law .rows .reads (l .content) x (fits .fit) read-is, tt) v p _ _
+        value-is (part-read has) (row-part law s v p head-is h))
 
   -- ---- any partition record
   module _ (question : Question) (others : List Cell) (p : List ℕ) (read : Row (List ℕ))

@@ -37,8 +37,9 @@ use Rattle.answers.specs.Kinds.{Kind}
 use Rattle.api.specs.HoldsTest.{holdsTest}
 use Rattle.ask.specs.LeafAnswers.{accepted, byPart}
 use Rattle.filter.specs.FilterDemand.{byReturned}
-use Rattle.demand.proofs.KindLaws.{KindLaws, HasPart}
-use Rattle.demand.proofs.ReadBackLaws.{ValueLaws, sheetOf, row-good, row-back, record-back, holds-read}
+use Rattle.demand.proofs.FilingLaws.{FiledUnder, FilingLaws}
+use Rattle.demand.proofs.KindLaws.{KindLaws, HasPart, good-row, good-part}
+use Rattle.demand.proofs.ReadBackLaws.{ValueLaws, sheetOf, rowRecord, row-back, record-back, holds-read}
 use Rattle.filterdemand.proofs.JoinedLaws.{Refusal, Follows, Leads}
 
 -- ---- what is written of a predicate is read back
@@ -74,13 +75,12 @@ module _ {A : Type 0} {column : PrimitiveType} {read : List ℕ → Res A} {writ
       let sheet-is = answer-back holdsLimit column (mapLiterals write p) (omega arith) (written-fits p (h .all)) (omega (arith, written-count p)) in
       holds-read law _ v Identity (mapLiterals write p) raw p r sheet-is value-is (written-back p (h .all)) row-is
 
--- ---- what a kind owes beside `KindLaws`: partition values are read without a refusal, and over values nothing is lost
-pub record LeafLaws {A B : Type 0} {column to : PrimitiveType} {transform : Transform} {k : Kind A B} (law : KindLaws column to transform k) : Type 0 where
+-- ---- what a kind owes beside `KindLaws`: partition values are read without a refusal, and over values nothing is lost, in files of older writers too
+pub record LeafLaws {A B : Type 0} {column to : PrimitiveType} {transform : Transform} {k : Kind A B} (law : KindLaws column to transform k) : Type 1 where
   pub same-tests : k .parts ≡ law .partTests
   pub part-read : (bs : List ℕ) (x : B) → fits (layout to) (length bs) ≡ true → law .partRead bs ≡ ok x → k .readPart bs ≡ x
   pub part-reads : (bs s : List ℕ) → readBytes to bs ≡ ok s → (x : B) × (law .partRead bs ≡ ok x)
-  pub no-row-lost : (leaf : Predicate A) (q : Predicate B) → AllOf (law .rows .Good) (literalsIn leaf) → k .project Inclusive leaf ≡ ok (some q)
-      → over-values.NoRowLost (law .rowTests) (law .partTests) (law .rows .Good) (k .partition) leaf q
+  pub filing : FilingLaws law
   pub strict-is-safe : (leaf : Predicate A) (q : Predicate B) → AllOf (law .rows .Good) (literalsIn leaf) → k .project Strict leaf ≡ ok (some q)
       → over-values.StrictIsSafe (law .rowTests) (law .partTests) (law .rows .Good) (k .partition) leaf q
   pub refusals : (o : operators.Binary) (x : A) → Only Refusal (k .project Inclusive (test (binary o x)))
@@ -107,50 +107,50 @@ module _ {A B : Type 0} {column to : PrimitiveType} {transform : Transform} {k :
       holds-back (law .parts) q (law .project-good question leaf q h e) p raw (r .0) value-is (r .1)
       ∙ ap₂ (λ by x. ok (holds by q x)) (sym (more .same-tests)) (sym same)
 
-  -- ---- a row, and the partition value that it has
-  module _ (content : Predicate (List ℕ)) (leaf : Predicate A) (leaf-is : eachLiteral (k .read) content ≡ ok leaf) (v p : List ℕ) (m : HasPart k column to v p)
-      (raw part : Row (List ℕ)) (value-is : value (layout column) v ≡ ok raw) (part-is : value (layout to) p ≡ ok part) where
-    good-row : OfPresent (law .rows .Good) (m .row)
-    good-row = row-good (law .rows) (m .content) (m .row) (value-read column v (m .content) (m .value-is) .fit) (m .row-is)
-
-    row-tested : testedSheet (sheetOf column transform content) raw ≡ ok (holds (law .rowTests) leaf (m .row))
-    row-tested =
+  -- ---- a leaf: what a row is answered, and what a partition value is by its record
+  module _ (content : Predicate (List ℕ)) (leaf : Predicate A) (leaf-is : eachLiteral (k .read) content ≡ ok leaf) where
+    row-tested : (v p : List ℕ) (m : HasPart k column to v p) (raw : Row (List ℕ)) → value (layout column) v ≡ ok raw
+        → testedSheet (sheetOf column transform content) raw ≡ ok (holds (law .rowTests) leaf (m .row))
+    row-tested v p m raw value-is =
         let same : raw ≡ m .content = ok-inj (sym value-is ∙ m .value-is) in
         law .rows .tests transform content raw ∙ going _ leaf-is ∙ going _ (ap (readRow (k .read)) same ∙ m .row-is)
 
-    part-tested : mapRow (k .readPart) part ≡ m .part
-    part-tested =
-        let good = law .part-good (m .row) (m .part) good-row (m .part-is) in
-        let same : part ≡ mapRow (k .write to) (m .part)
-        = ok-inj (sym part-is ∙ ap (value (layout to)) (sym (m .bytes-is)) ∙ record-back (law .parts) (m .part) good) in
-        row-part-read part (m .part) (value-read to p part part-is .fit) (ap (readRow (law .partRead)) same ∙ row-back (law .parts) (m .part) good)
+    by-part-is : (question : Question) (y : Row B) (f : List ℕ) (part : Row (List ℕ)) → OfPresent (law .parts .Good) y → rowRecord (law .parts) y ≡ f
+        → value (layout to) f ≡ ok part
+        → byPart k column transform question content part ≡ (k .project question leaf >>= λ q. ok (accepted (law .partTests) question q y))
+    by-part-is question y f part good bytes-is part-is =
+        let same : part ≡ mapRow (k .write to) y = ok-inj (sym part-is ∙ ap (value (layout to)) (sym bytes-is) ∙ record-back (law .parts) y good) in
+        let read = row-part-read part y (value-read to f part part-is .fit) (ap (readRow (law .partRead)) same ∙ row-back (law .parts) y good) in
+        going _ leaf-is ∙ going _ (law .result) ∙ rw (read, more .same-tests)
 
-    by-part-is : (question : Question)
-        → byPart k column transform question content part ≡ (k .project question leaf >>= λ q. ok (accepted (law .partTests) question q (m .part)))
-    by-part-is question = going _ leaf-is ∙ going _ (law .result) ∙ rw (part-tested, more .same-tests)
-
-    -- what the partition value is answered, by what the leaf is projected to
-    module _ (good : AllOf (law .rows .Good) (literalsIn leaf)) where
-      pub leaf-follows : (only : Only Refusal (k .project Inclusive leaf))
+    -- a row's record v, and the record f that is asked
+    module _ (good : AllOf (law .rows .Good) (literalsIn leaf)) (v f : List ℕ) (raw part : Row (List ℕ)) (value-is : value (layout column) v ≡ ok raw)
+        (part-is : value (layout to) f ≡ ok part) where
+      pub leaf-follows : FiledUnder law (more .filing .MayFile) v f → Only Refusal (k .project Inclusive leaf)
           → Follows (testedSheet (sheetOf column transform content) raw) (byPart k column transform Inclusive content part)
-      leaf-follows only = subst₂ Follows (sym row-tested) (sym (by-part-is Inclusive)) (go (k .project Inclusive leaf) refl (λ e d. only .only e d))
+      leaf-follows d only =
+          subst₂ Follows (sym (row-tested v (d .own-record) (d .own) raw value-is))
+          (sym (by-part-is Inclusive (d .under) f part (d .under-good) (d .bytes-is) part-is))
+          (go (k .project Inclusive leaf) refl (λ e x. only .only e x))
         where
           go : (r : Res (Projected (Predicate B))) → k .project Inclusive leaf ≡ r → ((e : ErrorKind) → r ≡ err e → Refusal e)
-              → Follows (ok (holds (law .rowTests) leaf (m .row))) (r >>= λ q. ok (accepted (law .partTests) Inclusive q (m .part)))
-          go (ok (some q)) e f = λ met. more .no-row-lost leaf q good e (m .row) (m .part) (good-row, m .part-is) (ok-inj met)
-          go (ok none) e f = λ met. refl
-          go (err x) e f = f x refl
+              → Follows (ok (holds (law .rowTests) leaf (d .own .row))) (r >>= λ q. ok (accepted (law .partTests) Inclusive q (d .under)))
+          go (ok (some q)) e h = λ met.
+              more .filing .no-older-row-lost leaf q good e (d .own .row) (d .own .part) (d .under)
+              (good-row law v (d .own-record) (d .own), d .own .part-is) (d .may-file) (ok-inj met)
+          go (ok none) e h = λ met. refl
+          go (err x) e h = h x refl
 
-      pub leaf-leads : Leads (testedSheet (sheetOf column transform content) raw) (byPart k column transform Strict content part)
-      leaf-leads = record {
+      pub leaf-leads : HasPart k column to v f → Leads (testedSheet (sheetOf column transform content) raw) (byPart k column transform Strict content part)
+      leaf-leads m = record {
         says = holds (law .rowTests) leaf (m .row);
-        is = row-tested;
-        yes-where = λ e. go (k .project Strict leaf) refl (sym (by-part-is Strict) ∙ e);
+        is = row-tested v f m raw value-is;
+        yes-where = λ e. go (k .project Strict leaf) refl (sym (by-part-is Strict (m .part) f part (good-part law v f m) (m .bytes-is) part-is) ∙ e);
       }
         where
           go : (r : Res (Projected (Predicate B))) → k .project Strict leaf ≡ r
               → (r >>= λ q. ok (accepted (law .partTests) Strict q (m .part))) ≡ ok true → holds (law .rowTests) leaf (m .row) ≡ true
-          go (ok (some q)) e met = more .strict-is-safe leaf q good e (m .row) (m .part) (good-row, m .part-is) (ok-inj met)
+          go (ok (some q)) e met = more .strict-is-safe leaf q good e (m .row) (m .part) (good-row law v f m, m .part-is) (ok-inj met)
           go (ok none) e met = absurd (false≢true (ok-inj met))
           go (err x) e met = ok-not-err met
 

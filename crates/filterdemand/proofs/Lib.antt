@@ -11,3 +11,4 @@ pub mod LeafAnswerLaws
 pub mod FilterDemandProof
 pub mod FilterUnknownProof
 pub mod NotOfLeafProof
+pub mod OlderFilterWitnesses
