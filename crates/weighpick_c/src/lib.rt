@@ -5,6 +5,7 @@ use api::holds::holds;
 use api::literal::transform_literal;
 use api::project::project;
 use api::project::strict_project;
+use api::project::strict_project_older;
 use files::files::test_summary;
 use filter::filter::filter_project;
 use filter::filter::filter_row;
@@ -12,7 +13,7 @@ use filter::filter::filter_strict_project;
 use pool::pool::PoolResult;
 use pool::pool::pool;
 ghost use mathlib.Core.Path.{_≡_};
-ghost use Rattle.projection.specs.declared.question.Question.the-variants.{Inclusive, Strict};
+ghost use Rattle.projection.specs.declared.question.Question.the-variants.{Inclusive, Strict, Older};
 ghost use Rattle.answers.specs.Answers.{answerNumber, answerCount};
 ghost use Rattle.meets.specs.Tested.{heldAs, heldNumber};
 ghost use Rattle.api.specs.HoldsTest.{holdsTest};
@@ -47,6 +48,19 @@ pub extern "C" fn weighpick_strict_project(sheet: &[u8], out: &mut [u8], count: 
     ensures buffer { λ _. ⌜ now (out .exit) ≡ projectLeaves Strict (now (sheet .entry)) (now (out .entry)) ⌝ }
 {
     told(strict_project(sheet, out), count)
+}
+
+#[no_mangle]
+pub extern "C" fn weighpick_strict_project_older(
+    sheet: &[u8],
+    out: &mut [u8],
+    count: &mut u64,
+) -> u32
+    ensures number { λ r. ⌜ r ≡ answerNumber (projectAnswer Older (now (sheet .entry)) (now (out .entry))) ⌝ }
+    ensures written { λ _. ⌜ now (count .exit) ≡ answerCount (projectAnswer Older (now (sheet .entry)) (now (out .entry))) ⌝ }
+    ensures buffer { λ _. ⌜ now (out .exit) ≡ projectLeaves Older (now (sheet .entry)) (now (out .entry)) ⌝ }
+{
+    told(strict_project_older(sheet, out), count)
 }
 
 #[no_mangle]
