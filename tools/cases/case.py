@@ -5,7 +5,7 @@ import model
 from model import SHEET_ROOM, VALUE_ROOM, VERDICT_ROOM
 
 HOLDS, PROJECT, STRICT_PROJECT, TRANSFORM, TEXT, PROGRAM = range(6)
-FILTER_ROW, FILTER_PROJECT, FILTER_STRICT_PROJECT, TEST_SUMMARY, POOL = range(6, 11)
+FILTER_ROW, FILTER_PROJECT, FILTER_STRICT_PROJECT, TEST_SUMMARY, POOL, STRICT_PROJECT_OLDER = range(6, 12)
 Case = collections.namedtuple("Case", "group routine number column transform width inputs result lent")
 
 
@@ -32,6 +32,12 @@ class Cases:
     def both(self, group, sheet, lent=None):
         for strict in (False, True):
             self.project(group, strict, sheet, lent)
+
+    def older(self, group, sheet, lent=None, told=None):
+        lent = self.lent(SHEET_ROOM) if lent is None else lent
+        number, result = model.strict_project_older(sheet, lent)
+        assert told in (None, (number, result)), (group, sheet, told)
+        self.all.append(Case(group, STRICT_PROJECT_OLDER, number, 0, 0, 0, [sheet], result, lent))
 
     def transform(self, group, column, transform, width, value, lent=None, told=None):
         lent = self.lent(VALUE_ROOM) if lent is None else lent

@@ -50,6 +50,7 @@ GROUPS = {
     42: "pooled summaries: one byte damaged",
     43: "pooled summaries: at random",
     44: "missing values",
+    45: "older files",
 }
 HEADER, INPUTS = struct.Struct("<BBBBBxIHHHHH"), 3
 

@@ -5,7 +5,7 @@ RECORD, CONTENT_AT, MISSING = 64, 4, 65535
 CONTENT = RECORD - CONTENT_AT
 BEFORE_WIDTH, AFTER_WIDTH = RESERVED = range(6, 8), range(12, RECORD)  # the head's bytes that are zero
 LITERALS = 64  # the most of a sheet to project
-ANSWER_LITERALS = 2 * LITERALS  # the most of an answer sheet, and of one to test a value with: lifting may add one for each
+ANSWER_LITERALS = 2 * LITERALS  # the most of an answer sheet, and of one to test a value with: each may add the next one
 SHEET_RECORDS, ANSWER_RECORDS = 1 + LITERALS, 1 + ANSWER_LITERALS
 LARGEST_SHEET = RECORD * SHEET_RECORDS
 SHEET_ROOM, VALUE_ROOM = RECORD * ANSWER_RECORDS, RECORD

@@ -22,8 +22,11 @@ def steps(strict, operator, column, transform, width, literals):
 
     if not is_number(column):
         return text_steps(strict, operator, column, width, literals, t)
-    lifted = not strict and (transform in (YEAR, MONTH) or (transform, column) == (DAY, TS))
-    return number_steps(strict, operator, column, literals, t, lifted)
+    return number_steps(strict, operator, column, literals, t, not strict and is_lifted(column, transform))
+
+
+def is_lifted(column, transform):
+    return transform in (YEAR, MONTH) or (transform, column) == (DAY, TS)
 
 
 def number_steps(strict, operator, column, literals, t, lifted):
@@ -58,3 +61,23 @@ def prefix_steps(strict, operator, column, width, l, t):
     if (operator == STARTS) == strict:
         return None
     return operator, [t(l)]
+
+
+# ---- 02's third question
+
+
+def older_steps(operator, column, transform, width, literals):
+    """Strict for older files: "the strict answer, but ..", and "for other transforms it equals strict"."""
+    predicate = steps(True, operator, column, transform, width, literals)
+    return older(*predicate) if predicate and is_lifted(column, transform) else predicate
+
+
+def older(operator, literals):
+    """02: "a bound after > rises by one where it is negative, NotEq with a negative value becomes NotIn of it and the next, and
+    NotIn gains the next of each negative value"."""
+    nexts = [v + 1 for v in literals if v < 0]
+    if operator == GT:
+        return operator, nexts or literals
+    if operator in (NOT_EQ, NOT_IN):
+        return NOT_IN if nexts else operator, literals + nexts
+    return operator, literals

@@ -1,9 +1,11 @@
-"""The routines: the holds-test, both projections and the transform of one value, bytes in and bytes out."""
+"""The routines: the holds-test, the projections and the transform of one value, bytes in and bytes out."""
+import functools
+
 from .codes import (
     SHEET_RECORDS, ANSWER_RECORDS, SHEET_ROOM, VALUE_ROOM, VOID, UNKNOWN, IS_NULL, NOT_NULL, NOT_NAN, UNARY, LT, LE, GT,
     GE, EQ, NOT_EQ, STARTS, NOT_STARTS, IN, NOT_IN, SETS, Refused, need, is_number, read_literal,
 )
-from .projections import steps
+from .projections import steps, older_steps
 from .sheets import check_head, read_sheet, read_value, check_utf8, value_record, answer_sheet
 from .transforms import result_type, transformed
 
@@ -34,7 +36,8 @@ def holds(sheet, value):
     return 0 if meets(operator, column, [read_literal(column, bs) for bs in contents], v) else 1
 
 
-def project(strict, sheet, room):
+def projected(question, sheet, room):
+    """By a question's steps, which take a leaf."""
     if room < SHEET_ROOM:
         return 2, b""
     try:
@@ -43,12 +46,20 @@ def project(strict, sheet, room):
         result = result_type(column, transform)
         need(transform != UNKNOWN, 7)
         literals = [read_literal(column, bs) for bs in contents]
-        predicate = steps(strict, operator, column, transform, width, literals)
+        predicate = question(operator, column, transform, width, literals)
     except Refused as refused:
         return refused.number, b""
     if predicate is None:
         return 1, b""
     return 0, answer_sheet(predicate[0], result, predicate[1])
+
+
+def project(strict, sheet, room):
+    return projected(functools.partial(steps, strict), sheet, room)
+
+
+def strict_project_older(sheet, room):
+    return projected(older_steps, sheet, room)
 
 
 def transform(column, transform_number, width, value, room):

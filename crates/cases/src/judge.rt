@@ -4,6 +4,7 @@ use api::holds::holds;
 use api::literal::transform_literal;
 use api::project::project;
 use api::project::strict_project;
+use api::project::strict_project_older;
 use files::files::test_summary;
 use filter::filter::filter_project;
 use filter::filter::filter_row;
@@ -37,6 +38,8 @@ const FILTER_STRICT: u8 = 8;
 const TEST_SUMMARY: u8 = 9;
 
 const POOL: u8 = 10;
+
+const OLDER: u8 = 11;
 
 // The result of pooling: whose the ends are and the flag, a byte each, and then the ends.
 const ENDS_AT: usize = 3;
@@ -94,7 +97,7 @@ fn ask_transform(question: Question, value: &[u8], out: &mut [u8]) -> Answer {
     )
 }
 
-// Asks one of the four routines that write a result; the test of a summary takes both inputs, the others the first.
+// Asks one of the five routines that write a result; the test of a summary takes both inputs, the others the first.
 fn ask(question: Question, first: &[u8], second: &[u8], out: &mut [u8]) -> Answer {
     let routine = question.routine;
     if routine == INCLUSIVE {
@@ -102,6 +105,9 @@ fn ask(question: Question, first: &[u8], second: &[u8], out: &mut [u8]) -> Answe
     }
     if routine == STRICT {
         return strict_project(first, out);
+    }
+    if routine == OLDER {
+        return strict_project_older(first, out);
     }
     if routine == TEST_SUMMARY {
         return test_summary(first, second, out);
