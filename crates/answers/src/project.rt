@@ -20,10 +20,9 @@ ghost use mathlib.Core.Bool.{true};
 ghost use mathlib.Core.Path.{_≡_};
 ghost use Rattle.values.specs.Outcomes.{ok};
 ghost use Rattle.partition.specs.ResultType.{resultType};
-ghost use Rattle.expr.specs.Operators.{byArity};
+ghost use Rattle.expr.specs.Operators.{many, isIn, notIn, byArity};
 ghost use Rattle.expr.specs.code.OperatorAnswers.{takesNone, takesOne, takesMany};
 ghost use Rattle.answers.specs.code.Settled.{Settled};
-ghost use Rattle.projection.specs.declared.question.Question.the-variants.{Inclusive, Strict};
 ghost use Rattle.answers.specs.code.Leaves.{projectedAt, steps, bytesLeafAt, keptBy, keeps, Ready, ReadyLeaf};
 
 // IsNull, NotNull, IsNan and NotNan pass through unchanged.
@@ -51,37 +50,39 @@ fn project_binary(x: Leaf, s: &[u8], records: &[u16], out: &mut [u8]) -> Answer
     number::project_one(x, s, records, out)
 }
 
-fn is_in(operator: PredicateOperator) -> bool
-    ensures { λ r. ⌜ r ≡ keptBy Inclusive (byArity operator) ⌝ }
+// Inclusive keeps In.
+fn keeps_in(question: Question) -> bool
+    ensures { λ r. ⌜ r ≡ keptBy question (many isIn) ⌝ }
 {
-    if let PredicateOperator::In = operator {
-        true
-    } else {
-        false
+    match question {
+        Question::Inclusive => true,
+        Question::Strict => false,
+        Question::Older => false,
     }
 }
 
-fn is_not_in(operator: PredicateOperator) -> bool
-    ensures { λ r. ⌜ r ≡ keptBy Strict (byArity operator) ⌝ }
+// Strict keeps NotIn, for older files too.
+fn keeps_not_in(question: Question) -> bool
+    ensures { λ r. ⌜ r ≡ keptBy question (many notIn) ⌝ }
 {
-    if let PredicateOperator::NotIn = operator {
-        true
-    } else {
-        false
+    match question {
+        Question::Inclusive => false,
+        Question::Strict => true,
+        Question::Older => true,
     }
 }
 
-// Whether a set has a projection: inclusive keeps In, strict NotIn, for older files too, and Identity both.
+// Whether a set has a projection: by its question, and Identity keeps both operators.
 fn keeps_set(question: Question, operator: PredicateOperator, transform: Transform) -> bool
     ensures { λ r. ⌜ r ≡ keeps transform question (byArity operator) ⌝ }
 {
     if let Transform::Identity = transform {
         return true;
     }
-    match question {
-        Question::Inclusive => is_in(operator),
-        Question::Strict => is_not_in(operator),
-        Question::Older => is_not_in(operator),
+    match operator {
+        PredicateOperator::In => keeps_in(question),
+        PredicateOperator::NotIn => keeps_not_in(question),
+        _ => false,
     }
 }
 
