@@ -13,7 +13,7 @@ use Rattle.expr.specs.code.OperatorAnswers.{negated, leafOf}
 use Rattle.expr.specs.declared.operator.PredicateOperator.{PredicateOperator}
 use Rattle.expr.specs.declared.operator.PredicateOperator.the-variants.{IsNull, NotNull, IsNan, NotNan, LessThan, LessThanOrEq, GreaterThan, GreaterThanOrEq, Eq, NotEq, StartsWith, NotStartsWith, In, NotIn}
 use Rattle.expr.specs.laws.PredicateLaws.{leaf-arity}
-use Rattle.expr.specs.Predicates.{Test, binary, set, test, operatorIn}
+use Rattle.expr.specs.Predicates.{Test, binary, set, test, operatorIn, literalsIn}
 
 -- ---- opposites
 abbrev pub oppositeSet : operators.SetOperator → operators.SetOperator
@@ -48,6 +48,10 @@ opposite-operator (binary operators.startsWith l) = refl
 opposite-operator (binary operators.notStartsWith l) = refl
 opposite-operator (set operators.isIn ls) = refl
 opposite-operator (set operators.notIn ls) = refl
+
+pub opposite-literals : {A : Type 0} (t : Test A) → literalsIn (test (opposite t)) ≡ literalsIn (test t)
+opposite-literals (binary o l) = refl
+opposite-literals (set o ls) = refl
 
 module _ {A : Type 0} (by : Tests A) where
   -- a present value meets the opposite exactly where it does not meet the test. This asks nothing of the comparison: "at most" is defined as not greater

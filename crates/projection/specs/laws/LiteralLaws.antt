@@ -23,8 +23,8 @@ use Rattle.values.specs.declared.transform.Transform.the-variants.{Identity}
 use Rattle.partition.specs.code.PartitionAnswers.{InType}
 use Rattle.expr.specs.Operators.{Binary, SetOperator, lessThan, lessThanOrEq, greaterThan, greaterThanOrEq, eq, notEq, startsWith, notStartsWith, isIn, notIn}
 use Rattle.expr.specs.Predicates.{Test, binary, set, Predicate, unary, test, literalsIn}
-use Rattle.expr.specs.laws.HoldsLaws.{opposite}
-use Rattle.projection.specs.laws.OppositeLaws.{older-is, opposite-literals}
+use Rattle.expr.specs.laws.HoldsLaws.{opposite, opposite-literals}
+use Rattle.projection.specs.laws.OppositeLaws.{older-is}
 use Rattle.projection.specs.ByteSteps.{Step, byLength, stringStarts, stringNotStarts, binaryStarts, binaryNotStarts, inclusiveBytes, strictBytes}
 use Rattle.projection.specs.Lifting.{withNexts, lift, older}
 use Rattle.projection.specs.NumberSteps.{inclusiveNumber, strictNumber}

@@ -21,7 +21,7 @@ use Rattle.values.specs.declared.error.ErrorKind.the-variants.{Overflow}
 use Rattle.partition.specs.code.PartitionAnswers.{InType}
 use Rattle.expr.specs.Holds.{numberTests, meets}
 use Rattle.expr.specs.laws.EqualityLaws.{number-tells}
-use Rattle.expr.specs.laws.HoldsLaws.{opposite, meets-false, opposite-true}
+use Rattle.expr.specs.laws.HoldsLaws.{opposite, opposite-literals, meets-false, opposite-true}
 use Rattle.expr.specs.Operators.{lessThan, lessThanOrEq, greaterThan, greaterThanOrEq, eq, notEq, startsWith, notStartsWith, isIn, notIn}
 use Rattle.expr.specs.Predicates.{Test, binary, set, test, literalsIn}
 use Rattle.projection.specs.Lifting.{lift}
@@ -29,7 +29,7 @@ use Rattle.projection.specs.laws.LiftingLaws.{less-is, greater-is, Above
 use Rattle.projection.specs.NumberSteps.{oneBelow, oneAbove, inclusiveNumber, strictNumber}
 use Rattle.projection.specs.Projection.{liftedBy}
 use Rattle.projection.specs.laws.EqualLaws.{Equals, eq-equals, in-equals}
-use Rattle.projection.specs.laws.StepLaws.{Returned, returned-map, returned-literal, returned-each, opposite-literal, opposite-each, Literal}
+use Rattle.projection.specs.laws.StepLaws.{Returned, returned-map, returned-weaken, returned-literal, returned-each, opposite-literal, opposite-each, Literal}
 use Rattle.projection.specs.Steps.{Projected, some, none, mapped, withLiteral, withEach}
 
 -- ---- inclusive
@@ -94,6 +94,24 @@ module _ (column : PrimitiveType) (T : ℤ → Res ℤ) (before : ℤ → ℤ �
     rises = r;
     literals = λ l m. (k, (e .0, e .1 ∙ ap ok (sym (eq-of-singleton (rw one at m)))));
   }
+
+-- ---- strict: the opposite of the inclusive answer to the opposite leaf, where strict has one
+module _ (column : PrimitiveType) (T : ℤ → Res ℤ) (g : Test ℤ → Type 0) where
+  turned : (x : Test ℤ) → Returned (inclusiveNumber column T (opposite x)) (λ q. g (opposite q))
+      → Returned (inclusiveNumber column T (opposite x) >>= λ q. ok (mapped opposite q)) g
+  turned x r = returned-map opposite (inclusiveNumber column T (opposite x)) (λ q. g (opposite q)) g (λ q k. k) r
+
+  pub strict-by : (x : Test ℤ) → Returned (inclusiveNumber column T (opposite x)) (λ q. g (opposite q)) → Returned (strictNumber column T x) g
+  strict-by (binary lessThan l) r = rw (opposite-literal greaterThanOrEq (T l)) at (turned (binary lessThan l) r)
+  strict-by (binary lessThanOrEq l) r = rw (opposite-literal greaterThanOrEq (oneAbove column T l)) at (turned (binary lessThanOrEq l) r)
+  strict-by (binary greaterThan l) r = rw (opposite-literal lessThanOrEq (T l)) at (turned (binary greaterThan l) r)
+  strict-by (binary greaterThanOrEq l) r = rw (opposite-literal lessThanOrEq (oneBelow column T l)) at (turned (binary greaterThanOrEq l) r)
+  strict-by (binary eq l) r = tt
+  strict-by (binary notEq l) r = rw (opposite-literal eq (T l)) at (turned (binary notEq l) r)
+  strict-by (binary startsWith l) r = tt
+  strict-by (binary notStartsWith l) r = tt
+  strict-by (set isIn ls) r = tt
+  strict-by (set notIn ls) r = rw (opposite-each compareNumbers isIn T ls) at (turned (set notIn ls) r)
 
 module _ (column : PrimitiveType) (T : ℤ → Res ℤ) (mono : (v w p q : ℤ) → T v ≡ ok p → T w ≡ ok q → v ≤ℤ w → p ≤ℤ q) where
   at-most : (k t : ℤ) (x : Test ℤ) → Has column T k t → ((v : ℤ) → (meets numberTests x v ≡ true) ↔ (v ≤ℤ k)) → Exact column T x (binary lessThanOrEq t)
@@ -213,32 +231,19 @@ module _ (column : PrimitiveType) (T : ℤ → Res ℤ) (mono : (v w p q : ℤ) 
       go true q exact = lift-exact x q exact
       go false q exact = same-exact x q exact
 
-  -- ---- strict: the opposite of the inclusive answer to the opposite question
+  -- ---- strict
   opposite-exact : (x q : Test ℤ) → Exact column T (opposite x) q → AllExact column T x (opposite q)
   opposite-exact x q exact v p h = (
     λ m w k. stable _ (λ z. clash (exact .kept w p k (opposite-true numberTests x w z)) (meets-false numberTests q p m)),
     λ a. opposite-true numberTests q p (refuted _ (λ z. let s = exact .needed v p h z in clash (a (s .0) (s .1)) (meets-false numberTests x (s .0) (s .2)))),
   )
 
-  by-opposite : (x : Test ℤ) → AllOf (InType column) (literalsIn (test (opposite x)))
-      → Returned (inclusiveNumber column T (opposite x) >>= λ q. ok (mapped opposite q)) (AllExact column T x)
-  by-opposite x fine =
-      returned-map
-      opposite
+  pub strict-exact : (x : Test ℤ) → AllOf (InType column) (literalsIn (test x)) → Returned (strictNumber column T x) (AllExact column T x)
+  strict-exact x fine =
+      strict-by column T (AllExact column T x) x
+      (returned-weaken
       (inclusiveNumber column T (opposite x))
       (Exact column T (opposite x))
-      (AllExact column T x)
+      (λ q. AllExact column T x (opposite q))
       (opposite-exact x)
-      (inclusive-exact (opposite x) fine)
-
-  pub strict-exact : (x : Test ℤ) → AllOf (InType column) (literalsIn (test x)) → Returned (strictNumber column T x) (AllExact column T x)
-  strict-exact (binary lessThan l) fine = rw (opposite-literal greaterThanOrEq (T l)) at (by-opposite (binary lessThan l) fine)
-  strict-exact (binary lessThanOrEq l) fine = rw (opposite-literal greaterThanOrEq (oneAbove column T l)) at (by-opposite (binary lessThanOrEq l) fine)
-  strict-exact (binary greaterThan l) fine = rw (opposite-literal lessThanOrEq (T l)) at (by-opposite (binary greaterThan l) fine)
-  strict-exact (binary greaterThanOrEq l) fine = rw (opposite-literal lessThanOrEq (oneBelow column T l)) at (by-opposite (binary greaterThanOrEq l) fine)
-  strict-exact (binary eq l) fine = tt
-  strict-exact (binary notEq l) fine = rw (opposite-literal eq (T l)) at (by-opposite (binary notEq l) fine)
-  strict-exact (binary startsWith l) fine = tt
-  strict-exact (binary notStartsWith l) fine = tt
-  strict-exact (set isIn ls) fine = tt
-  strict-exact (set notIn ls) fine = rw (opposite-each compareNumbers isIn T ls) at (by-opposite (set notIn ls) fine)
+      (inclusive-exact (opposite x) (rw (opposite-literals x) fine)))

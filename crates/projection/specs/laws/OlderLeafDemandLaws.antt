@@ -20,11 +20,11 @@ use Rattle.partition.specs.code.PartitionAnswers.{InType}
 use Rattle.partition.specs.Partition.{ofRow, transformNumber}
 use Rattle.partition.specs.laws.PartitionRowLaws.{number-rows}
 use Rattle.expr.specs.Holds.{numberTests, meets, holds}
-use Rattle.expr.specs.laws.HoldsLaws.{opposite, meets-false, opposite-true}
-use Rattle.expr.specs.Operators.{Unary, lessThan, lessThanOrEq, greaterThan, greaterThanOrEq, eq, notEq, startsWith, notStartsWith, isIn, notIn}
-use Rattle.expr.specs.Predicates.{Test, binary, set, Predicate, unary, test, literalsIn}
+use Rattle.expr.specs.laws.HoldsLaws.{opposite, opposite-literals, meets-false, opposite-true}
+use Rattle.expr.specs.Operators.{Unary}
+use Rattle.expr.specs.Predicates.{Test, Predicate, unary, test, literalsIn}
 use Rattle.projection.specs.Lifting.{lifted, olderIf}
-use Rattle.projection.specs.NumberSteps.{oneBelow, oneAbove, inclusiveNumber, strictNumber}
+use Rattle.projection.specs.NumberSteps.{inclusiveNumber, strictNumber}
 use Rattle.projection.specs.Projection.{inOrder, through, byTransform, liftedBy, numberUnder, numberStep, projectNumbers, projectBytes}
 use Rattle.projection.specs.Steps.{Projected, some, none, mapped}
 use Rattle.projection.specs.declared.question.Question.{Question}
@@ -33,13 +33,13 @@ use Rattle.projection.specs.laws.LeafDemand.{RowOf}
 use Rattle.projection.specs.laws.LeafDemandLaws.{under-mono, never-missing, identity-row}
 use Rattle.projection.specs.laws.LiftingLaws.{liftIf, returned-lifted, lift-keeps}
 use Rattle.projection.specs.laws.MissingLaws.{SameMissing, number-step-missing}
-use Rattle.projection.specs.laws.NumberLaws.{Has, Exact, inclusive-exact}
+use Rattle.projection.specs.laws.NumberLaws.{Has, Exact, inclusive-exact, strict-by}
 use Rattle.projection.specs.laws.OlderLeafDemand.{Filed, NumbersNoOlderRowLost, NumbersOlderIsSafe}
-use Rattle.projection.specs.laws.OppositeLaws.{opposite-literals, older-if-opposite}
+use Rattle.projection.specs.laws.OppositeLaws.{older-if-opposite}
 use Rattle.projection.specs.laws.ProjectionLaws.{bySteps, Course, leafItself, stepped, course, in-order-holds}
 use Rattle.projection.specs.laws.RowLaws.{literal-value}
 use Rattle.projection.specs.laws.SoundLaws.{Demanded, demanded-same}
-use Rattle.projection.specs.laws.StepLaws.{Returned, returned, returned-map, returned-weaken, returned-both, opposite-literal, opposite-each}
+use Rattle.projection.specs.laws.StepLaws.{Returned, returned, returned-map, returned-weaken, returned-both}
 
 -- ---- over the numbers of a column's type, under any partial map
 
@@ -66,24 +66,6 @@ module _ (column : PrimitiveType) (T : ℤ → Res ℤ) where
   leads lifts x q e v p f h d m =
       stable _ (λ z. clash (follows lifts (opposite x) q e v p f h d (opposite-true numberTests x v z)) (meets-false numberTests (liftIf lifts q) f m))
 
-  -- strict is the opposite of inclusive's answer to the opposite, where strict has one
-  module _ (g : Test ℤ → Type 0) where
-    turned : (x : Test ℤ) → Returned (inclusiveNumber column T (opposite x)) (λ q. g (opposite q))
-        → Returned (inclusiveNumber column T (opposite x) >>= λ q. ok (mapped opposite q)) g
-    turned x r = returned-map opposite (inclusiveNumber column T (opposite x)) (λ q. g (opposite q)) g (λ q k. k) r
-
-    strict-by : (x : Test ℤ) → Returned (inclusiveNumber column T (opposite x)) (λ q. g (opposite q)) → Returned (strictNumber column T x) g
-    strict-by (binary lessThan l) r = rw (opposite-literal greaterThanOrEq (T l)) at (turned (binary lessThan l) r)
-    strict-by (binary lessThanOrEq l) r = rw (opposite-literal greaterThanOrEq (oneAbove column T l)) at (turned (binary lessThanOrEq l) r)
-    strict-by (binary greaterThan l) r = rw (opposite-literal lessThanOrEq (T l)) at (turned (binary greaterThan l) r)
-    strict-by (binary greaterThanOrEq l) r = rw (opposite-literal lessThanOrEq (oneBelow column T l)) at (turned (binary greaterThanOrEq l) r)
-    strict-by (binary eq l) r = tt
-    strict-by (binary notEq l) r = rw (opposite-literal eq (T l)) at (turned (binary notEq l) r)
-    strict-by (binary startsWith l) r = tt
-    strict-by (binary notStartsWith l) r = tt
-    strict-by (set isIn ls) r = tt
-    strict-by (set notIn ls) r = rw (opposite-each compareNumbers isIn T ls) at (turned (set notIn ls) r)
-
   module _ (mono : (v w p q : ℤ) → T v ≡ ok p → T w ≡ ok q → v ≤ℤ w → p ≤ℤ q) (lifts : Bool) (x : Test ℤ) where
     inclusive-keeps : AllOf (InType column) (literalsIn (test x)) → Returned (inclusiveNumber column T x >>= λ q. ok (liftedBy lifts q)) (Keeps lifts x)
     inclusive-keeps fine =
@@ -98,7 +80,7 @@ module _ (column : PrimitiveType) (T : ℤ → Res ℤ) where
         (λ q. Safe lifts x (olderIf lifts q))
         (Safe lifts x)
         (λ q k. k)
-        (strict-by
+        (strict-by column T
         (λ q. Safe lifts x (olderIf lifts q))
         x
         (returned-weaken
@@ -110,32 +92,32 @@ module _ (column : PrimitiveType) (T : ℤ → Res ℤ) where
 
 -- ---- from numbers to rows, for either question: a missing row is filed under the missing value
 module _ (column : PrimitiveType) (transform : Transform) where
-  abbrev T' : ℤ → Res ℤ
-  T' = numberUnder column transform
+  abbrev under : ℤ → Res ℤ
+  under = numberUnder column transform
 
-  abbrev lifts' : Bool
-  lifts' = lifted column transform
+  abbrev lifting : Bool
+  lifting = lifted column transform
 
   abbrev value : ℤ → Res (Row ℤ)
   value = transformNumber column transform
 
   abbrev Filing : Question → Test ℤ → Test ℤ → Type 0
-  Filing question x q = (v p f : ℤ) → Has column T' v p → FiledNumber lifts' p f → Demanded question (meets numberTests x v) (meets numberTests q f)
+  Filing question x q = (v p f : ℤ) → Has column under v p → FiledNumber lifting p f → Demanded question (meets numberTests x v) (meets numberTests q f)
 
-  filed-missing : (f : Row ℤ) → Filed lifts' missing f → missing ≡ f
+  filed-missing : (f : Row ℤ) → Filed lifting missing f → missing ≡ f
   filed-missing f (inl e) = e
   filed-missing f (inr a) = missing-not-present (a .2)
 
-  filed-present : {X : Type 0} (z : ℤ) → Filed lifts' (present z) missing → X
+  filed-present : {X : Type 0} (z : ℤ) → Filed lifting (present z) missing → X
   filed-present z (inl e) = missing-not-present (sym e)
   filed-present z (inr a) = missing-not-present (a .4)
 
-  filed-number : (z y : ℤ) → Filed lifts' (present z) (present y) → FiledNumber lifts' z y
+  filed-number : (z y : ℤ) → Filed lifting (present z) (present y) → FiledNumber lifting z y
   filed-number z y (inl e) = inl (present-inj e)
   filed-number z y (inr a) = let s = present-inj (a .2) in inr (a .0, rw s (a .3), rw s (present-inj (a .4)))
 
   abbrev Demands : Question → Predicate ℤ → Predicate ℤ → Type 0
-  Demands question leaf q = (r p f : Row ℤ) → RowOf (InType column) (ofRow value) r p → Filed lifts' p f
+  Demands question leaf q = (r p f : Row ℤ) → RowOf (InType column) (ofRow value) r p → Filed lifting p f
       → Demanded question (holds numberTests leaf r) (holds numberTests q f)
 
   module _ (never : (v : ℤ) → value v ≡ ok missing → ⊥) (question : Question) where
@@ -161,10 +143,10 @@ module _ (column : PrimitiveType) (transform : Transform) where
 
   -- the steps of the two questions
   inclusive-filing : (x : Test ℤ) → AllOf (InType column) (literalsIn (test x)) → Returned (numberStep column transform Inclusive x) (Filing Inclusive x)
-  inclusive-filing x fine = inclusive-keeps column T' (under-mono column transform) lifts' x fine
+  inclusive-filing x fine = inclusive-keeps column under (under-mono column transform) lifting x fine
 
   older-filing : (x : Test ℤ) → AllOf (InType column) (literalsIn (test x)) → Returned (numberStep column transform Older x) (Filing Older x)
-  older-filing x fine = older-safe column T' (under-mono column transform) lifts' x (rw (opposite-literals x) fine)
+  older-filing x fine = older-safe column under (under-mono column transform) lifting x (rw (opposite-literals x) fine)
 
   module _ (question : Question)
       (filing : (x : Test ℤ) → AllOf (InType column) (literalsIn (test x)) → Returned (numberStep column transform question x) (Filing question x)) where
