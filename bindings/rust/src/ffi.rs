@@ -1,4 +1,4 @@
-//! The entry points of the static library, and all of this crate's `unsafe`.
+//! The calls of the static library, and all of this crate's `unsafe` but the declarations in `c_names`.
 //!
 //! The library reads the lent bytes, writes at most to the start of `out` and to `count`, or to the three numbers of pooling, keeps
 //! no pointer and has no state. It is proved to do so for bytes of every kind, so the safe functions below ask nothing of their
@@ -10,82 +10,8 @@
 use std::mem::MaybeUninit;
 use std::slice;
 
+use crate::c_names;
 use crate::record::{SHEET_BUFFER, VALUE_BUFFER};
-
-extern "C" {
-    fn weighpick_project(
-        sheet: *const u8,
-        sheet_len: usize,
-        out: *mut u8,
-        out_len: usize,
-        count: *mut u64,
-    ) -> u32;
-    fn weighpick_strict_project(
-        sheet: *const u8,
-        sheet_len: usize,
-        out: *mut u8,
-        out_len: usize,
-        count: *mut u64,
-    ) -> u32;
-    fn weighpick_transform(
-        column_type: u8,
-        transform: u8,
-        width: u32,
-        value: *const u8,
-        value_len: usize,
-        out: *mut u8,
-        out_len: usize,
-        count: *mut u64,
-    ) -> u32;
-    fn weighpick_holds(
-        sheet: *const u8,
-        sheet_len: usize,
-        value: *const u8,
-        value_len: usize,
-    ) -> u32;
-    fn weighpick_test_summary(
-        sheet: *const u8,
-        sheet_len: usize,
-        summary: *const u8,
-        summary_len: usize,
-        out: *mut u8,
-        out_len: usize,
-        count: *mut u64,
-    ) -> u32;
-    fn weighpick_pool(
-        first: *const u8,
-        first_len: usize,
-        second: *const u8,
-        second_len: usize,
-        lowest: *mut u64,
-        highest: *mut u64,
-        flag: *mut u64,
-    ) -> u32;
-    fn weighpick_filter_row(
-        columns: *const u8,
-        columns_len: usize,
-        text: *const u8,
-        text_len: usize,
-        values: *const u8,
-        values_len: usize,
-    ) -> u32;
-    fn weighpick_filter_project(
-        columns: *const u8,
-        columns_len: usize,
-        text: *const u8,
-        text_len: usize,
-        values: *const u8,
-        values_len: usize,
-    ) -> u32;
-    fn weighpick_filter_strict_project(
-        columns: *const u8,
-        columns_len: usize,
-        text: *const u8,
-        text_len: usize,
-        values: *const u8,
-        values_len: usize,
-    ) -> u32;
-}
 
 /// Memory for a result that goes with the call. It starts with a line of the cache, of 64 bytes, so that a record lies in as few
 /// of them as it can.
@@ -153,8 +79,8 @@ pub(crate) struct Answer {
 #[inline]
 unsafe fn project_at(question: Question, sheet: &[u8], out: *mut u8, out_len: usize) -> Answer {
     let projection = match question {
-        Question::Inclusive => weighpick_project,
-        Question::Strict => weighpick_strict_project,
+        Question::Inclusive => c_names::weighpick_project,
+        Question::Strict => c_names::weighpick_strict_project,
     };
     let mut count = 0;
     // SAFETY: the sheet's pointer comes from a live reference and goes with its length, `out` is as this function asks, and
@@ -176,7 +102,7 @@ unsafe fn transform_at(setting: Setting, value: &[u8], out: *mut u8, out_len: us
     let mut count = 0;
     // SAFETY: as in `project_at`; the three numbers may have any value.
     let number = unsafe {
-        weighpick_transform(
+        c_names::weighpick_transform(
             setting.column_type,
             setting.transform,
             setting.width,
@@ -236,7 +162,7 @@ pub(crate) fn transform<T>(
 /// The holds-test; gives document 01's number.
 pub(crate) fn holds(sheet: &[u8], value: &[u8]) -> u32 {
     // SAFETY: both pointers come from live references and go with their slices' lengths; nothing is written.
-    unsafe { weighpick_holds(sheet.as_ptr(), sheet.len(), value.as_ptr(), value.len()) }
+    unsafe { c_names::weighpick_holds(sheet.as_ptr(), sheet.len(), value.as_ptr(), value.len()) }
 }
 
 /// The test of a summary into a lent buffer.
@@ -245,7 +171,7 @@ pub(crate) fn test_summary_into(sheet: &[u8], summary: &[u8], out: &mut [u8]) ->
     // SAFETY: all pointers come from live references and go with their slices' lengths; `out` is borrowed exclusively, and `count`
     // is a variable of its own.
     let number = unsafe {
-        weighpick_test_summary(
+        c_names::weighpick_test_summary(
             sheet.as_ptr(),
             sheet.len(),
             summary.as_ptr(),
@@ -275,7 +201,7 @@ pub(crate) fn pool(first: &[u8], second: &[u8]) -> PoolAnswer {
     let (mut lowest, mut highest, mut flag) = (0, 0, 0);
     // SAFETY: both pointers come from live references and go with their slices' lengths; what is written are three variables.
     let number = unsafe {
-        weighpick_pool(
+        c_names::weighpick_pool(
             first.as_ptr(),
             first.len(),
             second.as_ptr(),
@@ -296,9 +222,9 @@ pub(crate) fn pool(first: &[u8], second: &[u8]) -> PoolAnswer {
 /// A filter's answer; gives document 01's number.
 pub(crate) fn filter(asked: Asked, columns: &[u8], text: &[u8], values: &[u8]) -> u32 {
     let routine = match asked {
-        Asked::Row => weighpick_filter_row,
-        Asked::Partition(Question::Inclusive) => weighpick_filter_project,
-        Asked::Partition(Question::Strict) => weighpick_filter_strict_project,
+        Asked::Row => c_names::weighpick_filter_row,
+        Asked::Partition(Question::Inclusive) => c_names::weighpick_filter_project,
+        Asked::Partition(Question::Strict) => c_names::weighpick_filter_strict_project,
     };
     // SAFETY: the three pointers come from live references and go with their slices' lengths; nothing is written.
     unsafe {

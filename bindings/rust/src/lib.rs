@@ -81,6 +81,8 @@
 #![deny(unsafe_code)]
 
 mod bytes;
+#[allow(unsafe_code)]
+mod c_names;
 mod column_error;
 mod columns;
 mod contents;

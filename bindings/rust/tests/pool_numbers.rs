@@ -1,23 +1,16 @@
 //! The three numbers that pooling sets, by its C name: after 0 they are the same whatever they were before, and after a refusal as
 //! they were.
 
+// One of them is called here.
+#[allow(dead_code)]
+#[path = "../src/c_names.rs"]
+mod c_names;
 mod support;
 
+use c_names::weighpick_pool;
 use support::files::{file_in_text, with, FLAG_AT};
 use weighpick::summary::pool;
 use weighpick::Refusal;
-
-extern "C" {
-    fn weighpick_pool(
-        first: *const u8,
-        first_len: usize,
-        second: *const u8,
-        second_len: usize,
-        lowest: *mut u64,
-        highest: *mut u64,
-        flag: *mut u64,
-    ) -> u32;
-}
 
 /// The answer's number, and the three numbers, which have some values before.
 fn ask(first: &[u8], second: &[u8], before: [u64; 3]) -> (u32, [u64; 3]) {

@@ -6,6 +6,10 @@
 //! - `draw`: contents from a fixed seed
 //! - `port`: weighpick's C entry points
 
+// The port's own declarations; build.sh puts them beside this crate. They have the layout of bindings/rust.
+#[rustfmt::skip]
+#[path = "../../weighpick/src/c_names.rs"]
+mod c_names;
 pub mod draw;
 pub mod filter;
 pub mod leaf;
