@@ -19,7 +19,7 @@
 #define WEIGHPICK_H
 
 /* The version; bindings/rust/Cargo.toml has the same, and CHANGELOG.md says what it has. */
-#define WEIGHPICK_VERSION "0.7.0"
+#define WEIGHPICK_VERSION "0.8.0"
 
 #include <stddef.h>
 #include <stdint.h>
@@ -149,8 +149,22 @@ enum weighpick_transform_number {
 /* Inclusive projection: a predicate that accepts the partition value of every row that meets the sheet's leaf. */
 uint32_t weighpick_project(const uint8_t *sheet, size_t sheet_len, uint8_t *out, size_t out_len, uint64_t *count);
 
-/* Strict projection: a predicate that accepts only partition values all of whose rows meet the sheet's leaf. */
+/*
+ * Strict projection: a predicate that accepts only partition values all of whose rows meet the sheet's leaf. Files of older writers
+ * need the next one.
+ */
 uint32_t weighpick_strict_project(const uint8_t *sheet, size_t sheet_len, uint8_t *out, size_t out_len, uint64_t *count);
+
+/*
+ * Strict projection for files of older writers, which rounded Year, Month and, of WEIGHPICK_TIMESTAMP alone, Day toward zero: a row
+ * with a negative partition value may lie under it or under the next. The predicate accepts only partition values under which all
+ * rows that may lie there meet the sheet's leaf. It is needed where such a file may be taken whole: by `>= 0` of a Date under Year
+ * the strict predicate accepts year 0, where a row of 1969 may lie, and this one does not.
+ *
+ * weighpick_project loses no row of such files as it is. The refusals are weighpick_strict_project's; under every other transform
+ * the answer is too, byte for byte.
+ */
+uint32_t weighpick_strict_project_older(const uint8_t *sheet, size_t sheet_len, uint8_t *out, size_t out_len, uint64_t *count);
 
 /* The partition value of one value, as a value record. */
 uint32_t weighpick_transform(uint8_t column_type, uint8_t transform, uint32_t width, const uint8_t *value, size_t value_len,
@@ -161,7 +175,8 @@ uint32_t weighpick_holds(const uint8_t *sheet, size_t sheet_len, const uint8_t *
 
 /*
  * The test of a summary: one byte is written, a verdict on the file by a sheet's leaf, or by an answer sheet's predicate. By an
- * inclusive predicate WEIGHPICK_SKIP says that no row of the file meets the leaf, by a strict one WEIGHPICK_WHOLE that all do.
+ * inclusive predicate WEIGHPICK_SKIP says that no row of the file meets the leaf, by a strict one WEIGHPICK_WHOLE that all do. For
+ * files of older writers the strict one is weighpick_strict_project_older's.
  */
 uint32_t weighpick_test_summary(const uint8_t *sheet, size_t sheet_len, const uint8_t *summary, size_t summary_len, uint8_t *out,
                                 size_t out_len, uint64_t *count);
@@ -189,11 +204,19 @@ uint32_t weighpick_pool(const uint8_t *first, size_t first_len, const uint8_t *s
 uint32_t weighpick_filter_row(const uint8_t *columns, size_t columns_len, const uint8_t *text, size_t text_len,
                               const uint8_t *values, size_t values_len);
 
-/* Inclusive question: no only if no row with these partition values meets the filter. */
+/*
+ * Inclusive question: no only if no row with these partition values meets the filter. This holds of files of older writers too, for
+ * which see weighpick_strict_project_older.
+ */
 uint32_t weighpick_filter_project(const uint8_t *columns, size_t columns_len, const uint8_t *text, size_t text_len,
                                   const uint8_t *values, size_t values_len);
 
-/* Strict question: yes only if every row with these partition values meets the filter. */
+/*
+ * Strict question: yes only if every row with these partition values meets the filter. This does not hold of files of older writers
+ * where the filter names a column under Year, Month or, of WEIGHPICK_TIMESTAMP alone, Day: `day >= 0` of a Date under Year is yes
+ * at year 0, where a row of 1969 may lie. Filters have no third question: such a file is passed over or filtered, and never taken
+ * whole.
+ */
 uint32_t weighpick_filter_strict_project(const uint8_t *columns, size_t columns_len, const uint8_t *text, size_t text_len,
                                          const uint8_t *values, size_t values_len);
 

@@ -16,6 +16,13 @@ unsafe extern "C" {
         out_len: usize,
         count: *mut u64,
     ) -> u32;
+    pub fn weighpick_strict_project_older(
+        sheet: *const u8,
+        sheet_len: usize,
+        out: *mut u8,
+        out_len: usize,
+        count: *mut u64,
+    ) -> u32;
     pub fn weighpick_transform(
         column_type: u8,
         transform: u8,

@@ -43,18 +43,21 @@ impl<const N: usize> Own<N> {
     }
 }
 
-/// One of the two projections.
+/// One of the three projections.
 #[derive(Clone, Copy)]
 pub(crate) enum Question {
     Inclusive,
     Strict,
+    /// Strict for files of older writers.
+    Older,
 }
 
-/// What the values are that a filter is asked of: a row, or partition values under one of the two questions.
+/// What a filter is asked: of a row, or one of its two questions, of partition values.
 #[derive(Clone, Copy)]
 pub(crate) enum Asked {
     Row,
-    Partition(Question),
+    Inclusive,
+    Strict,
 }
 
 /// What a value is transformed under, in document 01's numbers.
@@ -81,6 +84,7 @@ unsafe fn project_at(question: Question, sheet: &[u8], out: *mut u8, out_len: us
     let projection = match question {
         Question::Inclusive => c_names::weighpick_project,
         Question::Strict => c_names::weighpick_strict_project,
+        Question::Older => c_names::weighpick_strict_project_older,
     };
     let mut count = 0;
     // SAFETY: the sheet's pointer comes from a live reference and goes with its length, `out` is as this function asks, and
@@ -223,8 +227,8 @@ pub(crate) fn pool(first: &[u8], second: &[u8]) -> PoolAnswer {
 pub(crate) fn filter(asked: Asked, columns: &[u8], text: &[u8], values: &[u8]) -> u32 {
     let routine = match asked {
         Asked::Row => c_names::weighpick_filter_row,
-        Asked::Partition(Question::Inclusive) => c_names::weighpick_filter_project,
-        Asked::Partition(Question::Strict) => c_names::weighpick_filter_strict_project,
+        Asked::Inclusive => c_names::weighpick_filter_project,
+        Asked::Strict => c_names::weighpick_filter_strict_project,
     };
     // SAFETY: the three pointers come from live references and go with their slices' lengths; nothing is written.
     unsafe {

@@ -171,8 +171,34 @@ impl Leaf {
     }
 
     /// The strict projection: a predicate that accepts only partition values all of whose rows meet the leaf, or none.
+    ///
+    /// It does not hold of files of older writers, for which there is [`strict_project_older`](Leaf::strict_project_older).
     pub fn strict_project(&self) -> Result<Option<Predicate>, Refusal> {
         project(Question::Strict, self.as_bytes(), Predicate::answered)
+    }
+
+    /// The strict projection for files of older writers: a predicate that accepts only partition values under which all rows that
+    /// may lie there meet the leaf, or none.
+    ///
+    /// Such writers rounded Year, Month and, of Timestamp alone, Day toward zero, so that a row with a negative partition value may
+    /// lie under it or under the next. [`project`](Leaf::project) loses no such row. Under every other transform this is
+    /// [`strict_project`](Leaf::strict_project), and it is refused where that is.
+    ///
+    /// ```
+    /// use weighpick::Leaf;
+    ///
+    /// let since_1970: Leaf = "date year >= 0".parse()?;
+    /// let [strict, older] = [since_1970.strict_project()?, since_1970.strict_project_older()?];
+    /// assert_eq!(strict.expect(">= has one").to_string(), "int > -1");
+    /// assert_eq!(older.expect(">= has one").to_string(), "int > 0"); // a row of 1969 may lie under 0
+    ///
+    /// let other_days: Leaf = "date year != -1".parse()?; // than the last of 1969
+    /// let older = other_days.strict_project_older()?.expect("!= has one");
+    /// assert_eq!(older.to_string(), "int NOT IN (-1, 0)");
+    /// # Ok::<(), weighpick::Error>(())
+    /// ```
+    pub fn strict_project_older(&self) -> Result<Option<Predicate>, Refusal> {
+        project(Question::Older, self.as_bytes(), Predicate::answered)
     }
 
     /// Whether a row with this value meets the leaf.

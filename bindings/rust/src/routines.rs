@@ -79,6 +79,29 @@ pub fn strict_project_into<'a>(
     ask_into(Question::Strict, sheet, out)
 }
 
+/// The strict projection of a sheet for files of older writers, as [`Leaf::strict_project_older`](crate::Leaf::strict_project_older)
+/// says; the rest is as for [`project_into`].
+///
+/// ```
+/// use weighpick::sheet::{strict_project_into, strict_project_older_into, SHEET_BUFFER};
+/// use weighpick::{Leaf, Predicate};
+///
+/// let leaf: Leaf = "timestamp day >= 0".parse()?;
+/// let mut out = [0; SHEET_BUFFER];
+/// let answer = strict_project_older_into(leaf.as_bytes(), &mut out)?.expect(">= has a strict projection");
+/// assert_eq!(Predicate::from_bytes(answer)?.to_string(), "date > 0");
+///
+/// let answer = strict_project_into(leaf.as_bytes(), &mut out)?.expect(">= has a strict projection");
+/// assert_eq!(Predicate::from_bytes(answer)?.to_string(), "date > -1");
+/// # Ok::<(), weighpick::Error>(())
+/// ```
+pub fn strict_project_older_into<'a>(
+    sheet: &[u8],
+    out: &'a mut [u8],
+) -> Result<Option<&'a [u8]>, Refusal> {
+    ask_into(Question::Older, sheet, out)
+}
+
 /// A transform and the type of the column that it splits, in document 01's numbers.
 fn setting(transform: Transform, column_type: Type) -> Setting {
     Setting {
@@ -246,13 +269,11 @@ pub fn filter_row(columns: &[u8], text: &[u8], values: &[u8]) -> Result<bool, Re
 /// The inclusive question of a filter: no only where no row of these partition values meets it. Each value has the result type of
 /// its column's transform, else the column's; the rest is as for [`filter_row`].
 pub fn filter_project(columns: &[u8], text: &[u8], values: &[u8]) -> Result<bool, Refusal> {
-    let asked = Asked::Partition(Question::Inclusive);
-    said(ffi::filter(asked, columns, text, values))
+    said(ffi::filter(Asked::Inclusive, columns, text, values))
 }
 
 /// The strict question of a filter: yes only where every row of these partition values meets it. The values are as for
 /// [`filter_project`].
 pub fn filter_strict_project(columns: &[u8], text: &[u8], values: &[u8]) -> Result<bool, Refusal> {
-    let asked = Asked::Partition(Question::Strict);
-    said(ffi::filter(asked, columns, text, values))
+    said(ffi::filter(Asked::Strict, columns, text, values))
 }

@@ -1,4 +1,4 @@
-//! Sheets, the bytes behind leaves and predicates, and the four routines over them.
+//! Sheets, the bytes behind leaves and predicates, and the five routines over them.
 //!
 //! For callers that keep their buffers, or that get sheets from elsewhere. One [`Sheet`] may be written again and again, and one
 //! result buffer lent to every call; a predicate may stay in the buffer and be tested there. `docs/FORMAT.md` in the repository
@@ -23,5 +23,7 @@
 pub use crate::record::{
     Record, ANSWER_LITERALS, CONTENT, LARGEST_SHEET, LITERALS, RECORD, SHEET_BUFFER, VALUE_BUFFER,
 };
-pub use crate::routines::{holds, project_into, strict_project_into, transform_into};
+pub use crate::routines::{
+    holds, project_into, strict_project_into, strict_project_older_into, transform_into,
+};
 pub use crate::sheets::Sheet;

@@ -8,6 +8,9 @@ use crate::leaf::Question;
 /// What the count, or a number, holds before a call, so that one that was not set shows.
 const UNSET: u64 = u64::MAX;
 
+/// The C name of a projection.
+type Projection = unsafe extern "C" fn(*const u8, usize, *mut u8, usize, *mut u64) -> u32;
+
 /// One projection of a sheet into `out`: number and count.
 #[inline]
 pub fn project(question: Question, sheet: &[u8], out: &mut [u8]) -> (u32, u64) {
@@ -15,6 +18,17 @@ pub fn project(question: Question, sheet: &[u8], out: &mut [u8]) -> (u32, u64) {
         Question::Inclusive => c_names::weighpick_project,
         Question::Strict => c_names::weighpick_strict_project,
     };
+    project_by(routine, sheet, out)
+}
+
+/// The third question, strict for older files, which the crate has not: number and count.
+#[inline]
+pub fn strict_project_older(sheet: &[u8], out: &mut [u8]) -> (u32, u64) {
+    project_by(c_names::weighpick_strict_project_older, sheet, out)
+}
+
+#[inline]
+fn project_by(routine: Projection, sheet: &[u8], out: &mut [u8]) -> (u32, u64) {
     let mut count = UNSET;
     // SAFETY: pointers and lengths are those of live slices; `out` and `count` are lent to this call alone.
     let number = unsafe { routine(sheet.as_ptr(), sheet.len(), out.as_mut_ptr(), out.len(), &mut count) };
@@ -25,7 +39,7 @@ pub fn project(question: Question, sheet: &[u8], out: &mut [u8]) -> (u32, u64) {
 #[inline]
 pub fn transform(column: u8, transform: u8, width: u32, value: &[u8], out: &mut [u8]) -> (u32, u64) {
     let mut count = UNSET;
-    // SAFETY: as in `project`.
+    // SAFETY: as in `project_by`.
     let number = unsafe {
         c_names::weighpick_transform(
             column,
@@ -52,7 +66,7 @@ pub fn holds(sheet: &[u8], value: &[u8]) -> u32 {
 #[inline]
 pub fn test_summary(sheet: &[u8], summary: &[u8], out: &mut [u8]) -> (u32, u64) {
     let mut count = UNSET;
-    // SAFETY: as in `project`.
+    // SAFETY: as in `project_by`.
     let number = unsafe {
         c_names::weighpick_test_summary(
             sheet.as_ptr(),
