@@ -102,13 +102,17 @@ impl<'a> Filter<'a> {
 
     /// The strict question: `Ok(true)` only where every row of a file with these partition values meets the filter. The refusals
     /// are as for [`project`](Filter::project).
+    ///
+    /// This does not hold of files of older writers ([`Leaf::strict_project_older`](crate::Leaf::strict_project_older)) where the
+    /// filter names a column under Year, Month or, of Timestamp alone, Day; what [`project`](Filter::project) says of them does.
     pub fn strict_project(&self, partition: &Partition) -> Result<bool, Refusal> {
         let values = partition.of(self.columns)?;
         filter_strict_project(self.columns.as_bytes(), self.text, values)
     }
 
     /// What is done with the file of these partition values: it is skipped only after a plain no of the inclusive question, and
-    /// taken whole only after a plain yes of the strict one. So no row is lost after a refusal.
+    /// taken whole only after a plain yes of the strict one. So no row is lost after a refusal. Of files of older writers, for which
+    /// there is [`pick_older`](Filter::pick_older), the second does not hold: one may be taken whole that has other rows too.
     ///
     /// ```
     /// use weighpick::{Columns, Filter, Literal, Pick, Refusal, Transform, Type};
@@ -129,6 +133,27 @@ impl<'a> Filter<'a> {
             Pick::Whole
         } else {
             Pick::Filter
+        }
+    }
+
+    /// What is done with the file of these partition values where older writers may have written it: it is skipped only after a
+    /// plain no of the inclusive question, and never taken whole, since filters have no strict question for such files.
+    ///
+    /// ```
+    /// use weighpick::{Columns, Filter, Literal, Pick, Transform, Type};
+    ///
+    /// let columns = Columns::new([("day", Type::Date, Transform::Year)])?;
+    /// let filter = Filter::new(&columns, "day >= 0");
+    /// let file = |year| columns.partition(&[Literal::Int(year).into()]);
+    /// assert_eq!(filter.pick(&file(0)?), Pick::Whole);
+    /// assert_eq!(filter.pick_older(&file(0)?), Pick::Filter); // a row of 1969 may lie there
+    /// assert_eq!(filter.pick_older(&file(-1)?), Pick::Skip);
+    /// # Ok::<(), weighpick::Error>(())
+    /// ```
+    pub fn pick_older(&self, partition: &Partition) -> Pick {
+        match self.project(partition) {
+            Ok(false) => Pick::Skip,
+            _ => Pick::Filter,
         }
     }
 }

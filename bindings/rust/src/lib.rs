@@ -76,6 +76,23 @@
 //!
 //! [`Summary::pool`] makes one summary of two: that of the file which the two are joined to, or of a group of files, all of which
 //! are passed over where it is skipped.
+//!
+//! # Files of older writers
+//!
+//! Some tables have files whose writers rounded Year, Month and, of Timestamp alone, Day toward zero: there a row with a negative
+//! partition value may lie under it or under the next. No inclusive projection loses such a row. For what is taken whole there is
+//! [`Leaf::strict_project_older`]; [`Leaf::older_picker`] and [`Filter::pick_older`] keep the rule above for such files.
+//!
+//! ```
+//! use weighpick::{Leaf, Pick};
+//!
+//! // Weighings since 1970, in a table split by day.
+//! let leaf: Leaf = "timestamp day >= 0".parse()?;
+//! for (day, expected) in [("date -1", Pick::Skip), ("date 0", Pick::Filter), ("date 1", Pick::Whole)] {
+//!     assert_eq!(leaf.older_picker().pick(&day.parse()?)?, expected);
+//! }
+//! # Ok::<(), weighpick::Error>(())
+//! ```
 
 #![deny(missing_docs)]
 #![deny(unsafe_code)]

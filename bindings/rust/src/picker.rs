@@ -14,7 +14,8 @@ pub enum Pick {
     Whole,
 }
 
-/// Both projections of a leaf, asked once, to pick files by their partition values or summaries. Made by [`Leaf::picker`].
+/// Both projections of a leaf, asked once, to pick files by their partition values or summaries. Made by [`Leaf::picker`] or, for
+/// files of older writers, by [`Leaf::older_picker`].
 ///
 /// A file is skipped only where there is an inclusive predicate and it does not accept the partition value; it is taken whole only
 /// where there is a strict predicate and it does. So no row is lost where a projection has no predicate or was refused: then every
@@ -46,12 +47,44 @@ pub struct Picker {
 }
 
 impl Leaf {
-    /// Asks both projections, for picking files by their partition values or summaries.
+    /// Asks both projections, for picking files by their partition values or summaries. Where older writers may have written them,
+    /// [`older_picker`](Leaf::older_picker) is to be asked.
     pub fn picker(&self) -> Picker {
+        self.picker_with(self.strict_project())
+    }
+
+    /// The picker for files that older writers may have written: the strict projection is
+    /// [`strict_project_older`](Leaf::strict_project_older). It skips what [`picker`](Leaf::picker) skips, and takes no file whole
+    /// that may hold another row.
+    ///
+    /// ```
+    /// use weighpick::{Leaf, Literal, Pick, Summary};
+    ///
+    /// // Weighings since 1970, in a table split by year; one of 1969 may lie under 0 as well.
+    /// let leaf: Leaf = "date year >= 0".parse()?;
+    /// let (picker, older) = (leaf.picker(), leaf.older_picker());
+    /// for (year, by_picker, by_older) in [
+    ///     (-1, Pick::Skip, Pick::Skip),
+    ///     (0, Pick::Whole, Pick::Filter),
+    ///     (1, Pick::Whole, Pick::Whole),
+    /// ] {
+    ///     let file = Literal::Int(year);
+    ///     assert_eq!(picker.pick(&file.clone().into())?, by_picker);
+    ///     assert_eq!(older.pick(&file.clone().into())?, by_older);
+    ///     assert_eq!(older.pick_summary(&Summary::between(&file, &file)?)?, by_older);
+    /// }
+    /// # Ok::<(), weighpick::Error>(())
+    /// ```
+    pub fn older_picker(&self) -> Picker {
+        self.picker_with(self.strict_project_older())
+    }
+
+    /// The picker that goes by one of the two strict projections.
+    fn picker_with(&self, strict: Result<Option<Predicate>, Refusal>) -> Picker {
         Picker {
             partition_type: self.transform().result_type(self.column_type()).ok(),
             inclusive: self.project(),
-            strict: self.strict_project(),
+            strict,
         }
     }
 }
@@ -131,7 +164,7 @@ impl Picker {
         answer(&self.inclusive)
     }
 
-    /// What [`Leaf::strict_project`] answered.
+    /// What [`Leaf::strict_project`] answered; in the picker for files of older writers, [`Leaf::strict_project_older`].
     pub fn strict(&self) -> Result<Option<&Predicate>, Refusal> {
         answer(&self.strict)
     }

@@ -272,8 +272,8 @@ pub fn filter_project(columns: &[u8], text: &[u8], values: &[u8]) -> Result<bool
     said(ffi::filter(Asked::Inclusive, columns, text, values))
 }
 
-/// The strict question of a filter: yes only where every row of these partition values meets it. The values are as for
-/// [`filter_project`].
+/// The strict question of a filter: yes only where every row of these partition values meets it, which does not hold of files of
+/// older writers, as [`Filter::strict_project`](crate::Filter::strict_project) says. The values are as for [`filter_project`].
 pub fn filter_strict_project(columns: &[u8], text: &[u8], values: &[u8]) -> Result<bool, Refusal> {
     said(ffi::filter(Asked::Strict, columns, text, values))
 }

@@ -4,7 +4,9 @@
 ///
 /// By a leaf it is about the values of the file themselves. By the predicate of a projection, and a summary of partition values, it
 /// is about rows in part: [`Skip`](Verdict::Skip) by an inclusive predicate says that no row of the file meets the leaf, and
-/// [`Whole`](Verdict::Whole) by a strict one that all do. [`Picker::pick_summary`](crate::Picker::pick_summary) goes by both.
+/// [`Whole`](Verdict::Whole) by a strict one that all do; of files of older writers, by the one of
+/// [`Leaf::strict_project_older`](crate::Leaf::strict_project_older). [`Picker::pick_summary`](crate::Picker::pick_summary) goes by
+/// both.
 #[derive(Clone, Copy, Debug, PartialEq, Eq, Hash)]
 #[repr(u8)]
 pub enum Verdict {
