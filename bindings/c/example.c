@@ -1,7 +1,8 @@
 /*
  * A bench terminal's use of weighpick: the leaf `< 300` of an Int column under Truncate 10, both questions, the partition values
- * of two weighings, and what is done with their files; then a filter over two columns, asked of weighings and of their partition
- * values. Prints what it finds and returns non-zero if that is not what it should be.
+ * of two weighings, and what is done with their files; then the leaf `>= 0` of a Date under Year, and what is done with the files of
+ * older writers; then a filter over two columns, asked of weighings and of their partition values. Prints what it finds and returns
+ * non-zero if that is not what it should be.
  */
 #include "example.h"
 
@@ -87,6 +88,44 @@ static int pick(int32_t grams, const struct predicate *inclusive, const struct p
     return print_line(line, expected);
 }
 
+/* Writes the sheet of the leaf `>= 0` of a Date under Year: weighings since 1970. */
+static void put_since_1970(uint8_t *sheet)
+{
+    put_sheet(sheet, 0);
+    sheet[WEIGHPICK_TYPE_AT] = WEIGHPICK_DATE;
+    sheet[WEIGHPICK_TRANSFORM_AT] = WEIGHPICK_YEAR;
+    put_number(sheet + WEIGHPICK_WIDTH_AT, 4, 0);
+    put_number(sheet + WEIGHPICK_OPERATOR_AT, 2, WEIGHPICK_GREATER_THAN_OR_EQ);
+}
+
+/* Prints what is done with the file of a year, and what if an older writer may have written it. */
+static int pick_year(int32_t year, const struct predicate *inclusive, const struct predicate *strict,
+                     const struct predicate *older, const char *expected)
+{
+    uint8_t partition[WEIGHPICK_RECORD];
+    char line[LINE_SIZE];
+    put_int(partition, year);
+    uint32_t accepted = test(inclusive, partition);
+    snprintf(line, sizeof line, "year %ld: %s, of an older writer: %s", (long)year, decide(accepted, test(strict, partition)),
+             decide(accepted, test(older, partition)));
+    return print_line(line, expected);
+}
+
+/* Weighings since 1970, by year. A weighing of 1969 may lie under -1, and in a file of an older writer under 0 too. */
+static int pick_years(void)
+{
+    uint8_t sheet[SAMPLE_SIZE];
+    struct predicate inclusive, strict, older;
+    put_since_1970(sheet);
+    int good = ask("inclusive", weighpick_project, sheet, &inclusive, "inclusive 0 204 0");
+    good &= ask("strict", weighpick_strict_project, sheet, &strict, "strict 0 203 -1");
+    good &= ask("older", weighpick_strict_project_older, sheet, &older, "older 0 203 0");
+    good &= pick_year(-1, &inclusive, &strict, &older, "year -1: pass over, of an older writer: pass over");
+    good &= pick_year(0, &inclusive, &strict, &older, "year 0: read whole, of an older writer: read and filter");
+    good &= pick_year(1, &inclusive, &strict, &older, "year 1: read whole, of an older writer: read whole");
+    return good;
+}
+
 /* Asks the filter of one value a column. */
 static uint32_t ask_filter(filter_routine *routine, const struct values *values)
 {
@@ -125,6 +164,7 @@ int main(void)
     good &= ask("strict", weighpick_strict_project, sheet, &strict, "strict 0 201 300");
     good &= pick(287, &inclusive, &strict, "287 g in partition 280: read whole");
     good &= pick(300, &inclusive, &strict, "300 g in partition 300: pass over");
+    good &= pick_years();
     good &= filter("ab12x", 310, "ab12x 310 g: row 0, inclusive 0, strict 0: read whole");
     good &= filter("ab12x", 500, "ab12x 500 g: row 1, inclusive 0, strict 1: read and filter");
     good &= filter("ab12x", 290, "ab12x 290 g: row 1, inclusive 1, strict 1: pass over");

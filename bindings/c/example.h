@@ -23,7 +23,7 @@ struct predicate {
     uint64_t count;
 };
 
-/* One of the two projections. */
+/* One of the three projections. */
 typedef uint32_t projection(const uint8_t *, size_t, uint8_t *, size_t, uint64_t *);
 
 /* Writes the low `size` bytes of a number, little-endian. */
