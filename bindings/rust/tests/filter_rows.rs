@@ -4,6 +4,7 @@ mod support;
 
 use support::filters::Sample;
 use support::meets::meets;
+use support::older::filings;
 use support::sample::Random;
 use weighpick::filter::LEAVES;
 use weighpick::{Filter, Leaf, Pick, Predicate, Refusal, Value};
@@ -84,20 +85,26 @@ fn a_filter_is_answered_what_its_leaves_say() {
     assert!(counts.all(|&count| count > PUT_TO_THE_TEST), "{answers:?}");
 }
 
+/// The partition values of a row, if every column that a leaf names has one. Of another column the row may lack it, and has a missing
+/// one in its place.
+fn filed(sample: &Sample, row: &[Value]) -> Option<Vec<Value>> {
+    let named = |place| sample.tree.leaves().iter().any(|(at, _)| *at == place);
+    let values = partition_values(sample, row).into_iter().enumerate();
+    values
+        .map(|(place, value)| match value {
+            None if !named(place) => Some(Value::Missing),
+            value => value,
+        })
+        .collect()
+}
+
 #[test]
 fn no_row_is_lost() {
     let mut picks = [0; 3];
     for (sample, row) in samples(15) {
-        let partition = partition_values(&sample, &row);
-        // Of a column that no leaf names, a row may lack a partition value.
-        let named = |place| sample.tree.leaves().iter().any(|(at, _)| *at == place);
-        if (0..row.len()).any(|place| named(place) && partition[place].is_none()) {
+        let Some(partition) = filed(&sample, &row) else {
             continue;
-        }
-        let partition: Vec<Value> = partition
-            .into_iter()
-            .map(|p| p.unwrap_or(Value::Missing))
-            .collect();
+        };
         let filter = Filter::new(&sample.columns, &sample.text);
         let file = sample.columns.partition(&partition).expect("their types");
         let met = filter.row(&sample.columns.row(&row).expect("their types"));
@@ -113,4 +120,35 @@ fn no_row_is_lost() {
         picks.iter().all(|&count| count > PUT_TO_THE_TEST),
         "{picks:?}"
     );
+}
+
+/// Of files of older writers, whichever of their filings a row has: no file that it may lie in is skipped if it meets the filter, and
+/// none is taken whole. By the ordinary pick some would be that hold other rows.
+#[test]
+fn no_row_of_older_writers_is_lost() {
+    let (mut random, mut picks, mut wrongly_whole) = (Random::new(22), [0; 3], 0);
+    for (sample, row) in samples(23) {
+        let Some(partition) = filed(&sample, &row) else {
+            continue;
+        };
+        let columns = sample.columns.iter().zip(partition);
+        let filed = columns.map(|((_, column_type, transform), value)| {
+            let filings = filings(column_type, transform, value);
+            filings[random.below(filings.len())].clone()
+        });
+        let filed: Vec<Value> = filed.collect();
+        let filter = Filter::new(&sample.columns, &sample.text);
+        let file = sample.columns.partition(&filed).expect("their types");
+        let met = filter.row(&sample.columns.row(&row).expect("their types"));
+        let picked = filter.pick_older(&file);
+        if picked == Pick::Skip {
+            assert_eq!(met, Ok(false), "{filter:?} loses {row:?}");
+        }
+        picks[picked as usize] += 1;
+        wrongly_whole += usize::from(filter.pick(&file) == Pick::Whole && met == Ok(false));
+    }
+    let [skip, filter, whole] = picks;
+    assert!(skip.min(filter) > PUT_TO_THE_TEST, "{picks:?}");
+    assert_eq!(whole, 0);
+    assert!(wrongly_whole > 0);
 }

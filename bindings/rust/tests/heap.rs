@@ -64,7 +64,8 @@ fn no_memory_is_asked_for() -> Result<(), Error> {
                 filter.project(&file),
                 filter.strict_project(&file),
             ];
-            Ok::<_, Error>((answers, filter.check(), filter.pick(&file)))
+            let picks = [filter.pick(&file), filter.pick_older(&file)];
+            Ok::<_, Error>((answers, filter.check(), picks))
         });
         assert_eq!(counted, 0, "{text}: {answers:?}");
         assert!(answers.is_ok());
@@ -74,7 +75,8 @@ fn no_memory_is_asked_for() -> Result<(), Error> {
 
 #[test]
 fn files_are_picked_without() -> Result<(), Error> {
-    let picker = "int truncate[10] IN (5, 15, 25)".parse::<Leaf>()?.picker();
+    let leaf = "int truncate[10] IN (5, 15, 25)".parse::<Leaf>()?;
+    let pickers = [leaf.picker(), leaf.older_picker()];
     let wrong = Err(Refusal::WrongSummary);
     for (lowest, highest, expected) in [
         (0, 20, Ok(Pick::Filter)),
@@ -84,10 +86,11 @@ fn files_are_picked_without() -> Result<(), Error> {
     ] {
         let (counted, picked) = asked(|| {
             let file = Summary::between(&Literal::Int(lowest), &Literal::Int(highest))?;
-            Ok::<_, Error>(picker.pick_summary(&file.with_missing(true)))
+            let file = file.with_missing(true);
+            Ok::<_, Error>(pickers.each_ref().map(|picker| picker.pick_summary(&file)))
         });
         assert_eq!(counted, 0, "{lowest} to {highest}: {picked:?}");
-        assert_eq!(picked?, expected, "{lowest} to {highest}");
+        assert_eq!(picked?, [expected; 2], "{lowest} to {highest}");
     }
     Ok(())
 }

@@ -3,7 +3,9 @@
 mod support;
 
 use support::sample::Random;
-use weighpick::{Columns, Error, Filter, Leaf, Literal, Pick, Refusal, Transform, Type, Value};
+use weighpick::{
+    Columns, Error, Filter, Leaf, Literal, Pick, Predicate, Refusal, Transform, Type, Value,
+};
 
 /// What a leaf in text does with the file of a partition value in text.
 fn pick(leaf: &str, partition_value: &str) -> Result<Pick, Error> {
@@ -101,21 +103,21 @@ fn where_partition_values_have_no_type() {
 
 #[test]
 fn a_picker_has_both_answers() {
+    fn by_reference(
+        answer: &Result<Option<Predicate>, Refusal>,
+    ) -> Result<Option<&Predicate>, Refusal> {
+        answer.as_ref().map(Option::as_ref).map_err(|r| *r)
+    }
     let mut random = Random::new(9);
     for _ in 0..1000 {
         let leaf = random.leaf();
-        let picker = leaf.picker();
-        assert_eq!(
-            picker.inclusive(),
-            leaf.project().as_ref().map(Option::as_ref).map_err(|r| *r)
-        );
-        assert_eq!(
-            picker.strict(),
-            leaf.strict_project()
-                .as_ref()
-                .map(Option::as_ref)
-                .map_err(|r| *r)
-        );
+        for (picker, strict) in [
+            (leaf.picker(), leaf.strict_project()),
+            (leaf.older_picker(), leaf.strict_project_older()),
+        ] {
+            assert_eq!(picker.inclusive(), by_reference(&leaf.project()));
+            assert_eq!(picker.strict(), by_reference(&strict));
+        }
     }
 }
 

@@ -2,10 +2,10 @@
 
 mod support;
 
-use support::{both, BEFORE};
+use support::{answers, BEFORE};
 use weighpick::sheet::{
-    holds, project_into, strict_project_into, transform_into, Record, LARGEST_SHEET, RECORD,
-    SHEET_BUFFER, VALUE_BUFFER,
+    holds, project_into, strict_project_into, strict_project_older_into, transform_into, Record,
+    LARGEST_SHEET, RECORD, SHEET_BUFFER, VALUE_BUFFER,
 };
 use weighpick::{Leaf, Literal, PredicateOperator, Refusal, Transform, Type, Value};
 
@@ -44,10 +44,10 @@ fn transform_refusal(transform: Transform, column_type: Type, value: &[u8]) -> O
 fn buffer_too_small() {
     let mut small = [BEFORE; SHEET_BUFFER - 1];
     for asked in [sample(), Vec::new()] {
-        let inclusive = project_into(&asked, &mut small);
-        assert_eq!(inclusive, Err(Refusal::BufferTooSmall));
-        let strict = strict_project_into(&asked, &mut small);
-        assert_eq!(strict, Err(Refusal::BufferTooSmall));
+        for projection in [project_into, strict_project_into, strict_project_older_into] {
+            let refused = projection(&asked, &mut small);
+            assert_eq!(refused, Err(Refusal::BufferTooSmall));
+        }
     }
     let mut small_value = [BEFORE; VALUE_BUFFER - 1];
     let value = record(Literal::Int(1), Type::Int);
@@ -83,8 +83,8 @@ fn malformed_sheet() {
         spoilt(RECORD + 10, 1), // content after the length
     ];
     for malformed in sheets {
-        let refused = [Err(Refusal::Malformed), Err(Refusal::Malformed)];
-        assert_eq!(both(&malformed), refused, "{malformed:?}");
+        let refused = [Refusal::Malformed; 3].map(Err);
+        assert_eq!(answers(&malformed), refused, "{malformed:?}");
     }
 }
 
@@ -112,7 +112,7 @@ fn not_utf8() {
     // Cuts the letter's second byte off its first.
     sheet[RECORD + 5] = b'a';
     value[5] = b'a';
-    assert_eq!(both(&sheet), [Err(Refusal::NotUtf8), Err(Refusal::NotUtf8)]);
+    assert_eq!(answers(&sheet), [Refusal::NotUtf8; 3].map(Err));
     assert_eq!(holds(&sheet, &missing), Err(Refusal::NotUtf8));
     let refused = transform_refusal(Transform::Void, Type::String, &value);
     assert_eq!(refused, Some(Refusal::NotUtf8));
@@ -121,8 +121,7 @@ fn not_utf8() {
 #[test]
 fn no_result_type() {
     let time = sheet(PredicateOperator::Eq, Transform::Year, Literal::Time(0));
-    let refused = [Err(Refusal::NoResultType), Err(Refusal::NoResultType)];
-    assert_eq!(both(&time), refused);
+    assert_eq!(answers(&time), [Refusal::NoResultType; 3].map(Err));
     let value = record(Value::Missing, Type::Date);
     let refused = transform_refusal(Transform::Hour, Type::Date, &value);
     assert_eq!(refused, Some(Refusal::NoResultType));
@@ -132,8 +131,7 @@ fn no_result_type() {
 fn data_invalid() {
     let wide = Transform::Truncate(1 << 31);
     let asked = sheet(PredicateOperator::GreaterThan, wide, Literal::Int(0));
-    let refused = [Err(Refusal::DataInvalid), Err(Refusal::DataInvalid)];
-    assert_eq!(both(&asked), refused);
+    assert_eq!(answers(&asked), [Refusal::DataInvalid; 3].map(Err));
     let value = record(Literal::Timestamp(i64::MAX), Type::Timestamp);
     let refused = transform_refusal(Transform::Month, Type::Timestamp, &value);
     assert_eq!(refused, Some(Refusal::DataInvalid));
@@ -142,11 +140,7 @@ fn data_invalid() {
 #[test]
 fn feature_unsupported() {
     let unknown = sheet(PredicateOperator::Eq, Transform::Unknown, Literal::Int(0));
-    let refused = [
-        Err(Refusal::FeatureUnsupported),
-        Err(Refusal::FeatureUnsupported),
-    ];
-    assert_eq!(both(&unknown), refused);
+    assert_eq!(answers(&unknown), [Refusal::FeatureUnsupported; 3].map(Err));
     let value = record(Value::Missing, Type::Binary);
     let refused = transform_refusal(Transform::Unknown, Type::Binary, &value);
     assert_eq!(refused, Some(Refusal::FeatureUnsupported));
@@ -156,9 +150,10 @@ fn feature_unsupported() {
 fn overflow() {
     let above = PredicateOperator::GreaterThan;
     let asked = sheet(above, Transform::Truncate(10), Literal::Int(i32::MAX));
-    let [inclusive, strict] = both(&asked);
+    let [inclusive, strict, older] = answers(&asked);
     assert_eq!(inclusive, Err(Refusal::Overflow));
     assert!(matches!(strict, Ok(Some(_))));
+    assert_eq!(older, strict);
     let value = record(Literal::Long(i64::MIN), Type::Long);
     let refused = transform_refusal(Transform::Truncate(3), Type::Long, &value);
     assert_eq!(refused, Some(Refusal::Overflow));
@@ -167,13 +162,13 @@ fn overflow() {
 #[test]
 fn no_predicate_leaves_the_buffer_too() {
     let void = sheet(PredicateOperator::Eq, Transform::Void, Literal::Int(0));
-    assert_eq!(both(&void), [Ok(None), Ok(None)]);
+    assert_eq!(answers(&void), [const { Ok(None) }; 3]);
 }
 
 #[test]
 fn a_result_leaves_the_bytes_behind_it() {
-    let sizes = both(&sample()).map(|answer| answer.map(|found| found.map(|bytes| bytes.len())));
-    assert_eq!(sizes, [Ok(Some(2 * RECORD)), Ok(Some(2 * RECORD))]);
+    let sizes = answers(&sample()).map(|answer| answer.map(|found| found.map(|bytes| bytes.len())));
+    assert_eq!(sizes, [Ok(Some(2 * RECORD)); 3]);
     let value = record(Literal::Int(287), Type::Int);
     let mut out = [BEFORE; 2 * VALUE_BUFFER];
     let written = transform_into(Transform::Truncate(10), Type::Int, &value, &mut out);

@@ -3,7 +3,7 @@
 mod support;
 
 use support::sample::Random;
-use support::{both, TRANSFORMS};
+use support::{answers, TRANSFORMS};
 use weighpick::sheet::{project_into, Sheet, RECORD, SHEET_BUFFER};
 use weighpick::summary::Whose;
 use weighpick::{Leaf, Literal, Predicate, PredicateOperator, Refusal, Transform, Type, Value};
@@ -62,7 +62,11 @@ fn leaves_and_predicates() {
     for _ in 0..LEAVES {
         let leaf = random.leaf();
         assert_eq!(Leaf::from_bytes(leaf.as_bytes()).as_ref(), Ok(&leaf));
-        for answer in [leaf.project(), leaf.strict_project()] {
+        for answer in [
+            leaf.project(),
+            leaf.strict_project(),
+            leaf.strict_project_older(),
+        ] {
             let Ok(Some(predicate)) = answer else {
                 continue;
             };
@@ -108,7 +112,7 @@ fn records_off_the_chain_are_left_out() {
     bytes[2 * RECORD + 2] = 0xff;
     let read = Leaf::from_bytes(&bytes).expect("a well-formed sheet");
     assert_eq!(read, set(&[&first, &last]));
-    assert_eq!(both(&bytes), both(read.as_bytes()));
+    assert_eq!(answers(&bytes), answers(read.as_bytes()));
 }
 
 #[test]

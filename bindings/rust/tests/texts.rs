@@ -109,11 +109,12 @@ fn leaves_and_predicates() {
     for _ in 0..LEAVES {
         let leaf = random.leaf();
         assert!(again(&leaf), "{leaf}");
-        for predicate in [leaf.project(), leaf.strict_project()]
-            .into_iter()
-            .flatten()
-            .flatten()
-        {
+        let answers = [
+            leaf.project(),
+            leaf.strict_project(),
+            leaf.strict_project_older(),
+        ];
+        for predicate in answers.into_iter().flatten().flatten() {
             assert!(again(&predicate), "{predicate}");
             predicates += 1;
         }

@@ -1,4 +1,5 @@
-//! What several tests use: a generator of leaves, filters and rows that gives the same ones every time, and when a row meets a leaf.
+//! What several tests use: a generator of leaves, filters and rows that gives the same ones every time, when a row meets a leaf, and
+//! where older writers may have filed one.
 
 // Each test is a program of its own and uses a part of this module.
 #![allow(dead_code)]
@@ -6,9 +7,12 @@
 pub mod files;
 pub mod filters;
 pub mod meets;
+pub mod older;
 pub mod sample;
 
-use weighpick::sheet::{project_into, strict_project_into, SHEET_BUFFER};
+use weighpick::sheet::{
+    project_into, strict_project_into, strict_project_older_into, SHEET_BUFFER,
+};
 use weighpick::{Leaf, Literal, Predicate, PredicateOperator, Refusal, Transform, Type};
 
 /// What a buffer holds before a call, so that a byte written to it shows.
@@ -79,10 +83,11 @@ pub fn said(
     Ok(answer?.map(|p| (p.operator(), p.literals().collect())))
 }
 
-/// The inclusive and the strict answer sheet of a sheet, each asked with a buffer of its own. Every byte of the buffer behind the
-/// answer, all of them where there is none, is as it was.
-pub fn both(sheet: &[u8]) -> [Result<Option<Vec<u8>>, Refusal>; 2] {
-    [project_into, strict_project_into].map(|projection| {
+/// The inclusive and the two strict answer sheets of a sheet, the one for files of older writers last, each asked with a buffer of
+/// its own. Every byte of the buffer behind the answer, all of them where there is none, is as it was.
+pub fn answers(sheet: &[u8]) -> [Result<Option<Vec<u8>>, Refusal>; 3] {
+    let projections = [project_into, strict_project_into, strict_project_older_into];
+    projections.map(|projection| {
         let mut out = [BEFORE; SHEET_BUFFER + 1];
         let answer = projection(sheet, &mut out).map(|found| found.map(<[u8]>::to_vec));
         let written = answer
