@@ -5,6 +5,9 @@ const HEADER: &str = include_str!("../../c/weighpick.h");
 const BLOCK: &str = include_str!("../src/c_names.rs");
 const SOURCE: &str = include_str!("../../../crates/weighpick_c/src/lib.rt");
 
+/// The page that has a table of the functions.
+const PAGE: &str = include_str!("../../../docs/FORMAT.md");
+
 /// C's types, with Rust's for them.
 const C_TYPES: [(&str, &str); 7] = [
     ("const uint8_t *", "*const u8"),
@@ -213,6 +216,15 @@ fn none_is_passed_over() {
     assert_eq!(in_header(HEADER).len(), count(HEADER));
     assert_eq!(in_block(BLOCK).len(), count(BLOCK));
     assert_eq!(in_source(SOURCE).len(), count(SOURCE));
+}
+
+/// The table of the page has a line for each function, in the header's order.
+#[test]
+fn in_the_table() {
+    let lines = PAGE.lines().filter_map(|line| line.strip_prefix("| `"));
+    let names = lines.filter_map(|line| Some(line.split_once('`')?.0));
+    let names = names.filter(|name| name.starts_with("weighpick_"));
+    assert!(names.eq(in_header(HEADER).iter().map(|f| f.name.as_str())));
 }
 
 /// What stands in a text, and what a slip puts in its place.
