@@ -5,6 +5,7 @@ use beside::draw::Draw;
 use beside::leaf::{LITERALS, Leaf, Question, column, operator, transform};
 
 use crate::files::{self, Pools, Verdicts};
+use crate::older::{self, Leaves};
 
 /// Leaves of a kind: several, so that no branch is learned from one literal alone.
 pub const LEAVES: usize = 16;
@@ -17,6 +18,8 @@ const STRING_WIDTH: u32 = 4;
 /// What a row of the tables is about.
 pub enum Kind {
     Projection(Projections),
+    /// The strict projection and the third question, of leaves that the crate is not asked.
+    Older(Leaves),
     Transform(Values),
     /// The holds-test by the inclusive predicates of leaves.
     Holds(Projections),
@@ -30,6 +33,7 @@ impl Kind {
     pub fn name(&self) -> &str {
         match self {
             Kind::Projection(kind) | Kind::Holds(kind) => &kind.name,
+            Kind::Older(kind) => &kind.name,
             Kind::Transform(kind) => &kind.name,
             Kind::Verdict(kind) => &kind.name,
             Kind::Pool(kind) => &kind.name,
@@ -40,6 +44,8 @@ impl Kind {
         match self {
             Kind::Projection(kind) if kind.question == Question::Inclusive => "inclusive",
             Kind::Projection(_) => "strict",
+            Kind::Older(kind) if kind.asked == older::Asked::Strict => "strict",
+            Kind::Older(_) => "older",
             Kind::Transform(_) => "transform",
             Kind::Holds(_) => "holds",
             Kind::Verdict(_) => "verdict",
@@ -68,15 +74,15 @@ pub struct Values {
 
 /// What is common to the leaves of a kind.
 #[derive(Clone, Copy)]
-struct Setting {
-    text: &'static str,
-    column: u8,
-    transform: u8,
-    width: u32,
-    content: fn(&mut Draw) -> Vec<u8>,
+pub struct Setting {
+    pub text: &'static str,
+    pub column: u8,
+    pub transform: u8,
+    pub width: u32,
+    pub content: fn(&mut Draw) -> Vec<u8>,
 }
 
-const INT: Setting = Setting {
+pub const INT: Setting = Setting {
     text: "Int, Truncate 10",
     column: column::INT,
     transform: transform::TRUNCATE,
@@ -84,9 +90,9 @@ const INT: Setting = Setting {
     content: Draw::int,
 };
 const LONG: Setting = Setting { text: "Long, Truncate 10", column: column::LONG, content: Draw::long, ..INT };
-const DATE_MONTH: Setting =
+pub const DATE_MONTH: Setting =
     Setting { text: "Date, Month", column: column::DATE, transform: transform::MONTH, width: 0, content: Draw::date };
-const MOMENT_DAY: Setting = Setting {
+pub const MOMENT_DAY: Setting = Setting {
     text: "Timestamp, Day",
     column: column::TIMESTAMP,
     transform: transform::DAY,
@@ -113,6 +119,7 @@ pub fn all() -> Vec<Kind> {
     let inclusive = projections.iter().filter(|kind| kind.question == Question::Inclusive);
     let tested: Vec<Projections> = inclusive.cloned().collect();
     let mut kinds: Vec<Kind> = projections.into_iter().map(Kind::Projection).collect();
+    kinds.extend(older::kinds().into_iter().map(Kind::Older));
     kinds.extend(transforms().into_iter().map(Kind::Transform));
     kinds.extend(tested.into_iter().map(Kind::Holds));
     kinds.extend(files::verdicts().into_iter().map(Kind::Verdict));
@@ -150,23 +157,28 @@ fn transforms() -> Vec<Values> {
 }
 
 fn projection(setting: Setting, (word, operator): (&str, u16), question: Question) -> Projections {
+    let mut draw = Draw::new();
+    let name = format!("{}: {word}", setting.text);
+    let leaves = leaves(setting, operator, &mut draw);
+    let contents = leaves.iter().map(|_| (setting.content)(&mut draw)).collect();
+    Projections { name, question, leaves, contents }
+}
+
+/// The leaves of a kind: sets are full.
+pub fn leaves(setting: Setting, operator: u16, draw: &mut Draw) -> Vec<Leaf> {
     let (leaves, literals) = match operator {
         operator::IN | operator::NOT_IN => (SETS, LITERALS),
         operator::IS_NULL => (LEAVES, 0),
         _ => (LEAVES, 1),
     };
-    let mut draw = Draw::new();
     let leaf = |_| Leaf {
         operator,
         column: setting.column,
         transform: setting.transform,
         width: setting.width,
-        literals: (0..literals).map(|_| (setting.content)(&mut draw)).collect(),
+        literals: (0..literals).map(|_| (setting.content)(draw)).collect(),
     };
-    let name = format!("{}: {word}", setting.text);
-    let leaves: Vec<Leaf> = (0..leaves).map(leaf).collect();
-    let contents = leaves.iter().map(|_| (setting.content)(&mut draw)).collect();
-    Projections { name, question, leaves, contents }
+    (0..leaves).map(leaf).collect()
 }
 
 fn values(setting: Setting) -> Values {

@@ -4,11 +4,13 @@
 //! The first table is crate and C name: the crate gets a `BoundPredicate` that is ready and drops its result within the
 //! call; the port reads its sheet's bytes anew each call and writes into a buffer that is not cleared between calls. The
 //! second table is what two callers pay, one of the crate and one of the port's Rust crate, from a leaf that is ready and
-//! from literals, the holds-test, the test of a summary and the pooling of two. Then come the tables of `filters`, in which
-//! the crate has no part. An argument, if there is one, picks the kinds whose name has it in it.
+//! from literals, and, of the port alone, the third question beside the strict one, the holds-test, the test of a summary and
+//! the pooling of two. Then come the tables of `filters`, in which the crate has no part. An argument, if there is one, picks
+//! the kinds whose name has it in it.
 
 mod files;
 mod kinds;
+mod older;
 mod rust_crate;
 mod sides;
 mod tables;

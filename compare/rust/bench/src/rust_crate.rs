@@ -3,6 +3,8 @@
 use beside::leaf::Question;
 use weighpick::{Leaf, Literal, Predicate, PredicateOperator, Refusal, Summary, Transform, Type, Value};
 
+use crate::older::Asked;
+
 /// A leaf that is ready.
 pub fn leaf(sheet: &[u8]) -> Leaf {
     Leaf::from_bytes(sheet).expect("a leaf of the domain")
@@ -12,6 +14,13 @@ pub fn project(question: Question, leaf: &Leaf) -> Result<Option<Predicate>, Ref
     match question {
         Question::Inclusive => leaf.project(),
         Question::Strict => leaf.strict_project(),
+    }
+}
+
+pub fn strictly(asked: Asked, leaf: &Leaf) -> Result<Option<Predicate>, Refusal> {
+    match asked {
+        Asked::Strict => leaf.strict_project(),
+        Asked::Older => leaf.strict_project_older(),
     }
 }
 

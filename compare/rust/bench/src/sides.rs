@@ -11,6 +11,7 @@ use timing::{a_call, in_turn, pass};
 
 use crate::files::{Pools, Verdicts};
 use crate::kinds::{Projections, Values};
+use crate::older::{Asked, Leaves};
 use crate::rust_crate::{self, Parts};
 
 /// Nanoseconds a call, in the order of the sides.
@@ -50,6 +51,36 @@ pub fn time_projection(kind: &Projections) -> Times {
         pass(&parts, |parts| rust_crate::project(question, &parts.leaf())),
     ]);
     a_call(times, leaves.len())
+}
+
+/// The strict projection, or the third question, of the leaves of a kind, by the port alone.
+pub fn time_older(kind: &Leaves) -> Times {
+    let asked = kind.asked;
+    let sheets: Vec<Vec<u8>> = kind.leaves.iter().map(sheet_of).collect();
+    let typed: Vec<weighpick::Leaf> = sheets.iter().map(|sheet| rust_crate::leaf(sheet)).collect();
+    let parts: Vec<Parts> = typed.iter().map(Parts::of).collect();
+    let mut out = vec![0; SHEET_BUFFER];
+    for (sheet, leaf) in sheets.iter().zip(&typed) {
+        let [strict, older] = [Asked::Strict, Asked::Older].map(|asked| compare_strictly(asked, sheet, leaf, &mut out));
+        assert_eq!(strict != older, kind.lifted, "{}: {leaf}", kind.name);
+    }
+    let times = in_turn([
+        None,
+        None,
+        pass(&sheets, |sheet| strictly(asked, sheet, black_box(&mut out))),
+        pass(&typed, |leaf| rust_crate::strictly(asked, leaf)),
+        pass(&parts, |parts| rust_crate::strictly(asked, &parts.leaf())),
+    ]);
+    a_call(times, sheets.len())
+}
+
+/// One of the two strict questions, by its C name.
+#[inline]
+fn strictly(asked: Asked, sheet: &[u8], out: &mut [u8]) -> (u32, u64) {
+    match asked {
+        Asked::Strict => port::project(Question::Strict, sheet, out),
+        Asked::Older => port::strict_project_older(sheet, out),
+    }
 }
 
 /// The holds-test of a partition value by the inclusive predicate of each leaf of a kind. The crate's published files have
@@ -162,4 +193,14 @@ fn compare_projection(question: Question, leaf: &Leaf, sheet: &[u8], out: &mut [
     assert_eq!(answer, crate_side::project(question, leaf), "{leaf:?}");
     let typed = rust_crate::project(question, &rust_crate::leaf(sheet)).expect("no refusal");
     assert_eq!(typed.expect("a predicate").as_bytes(), written, "{leaf:?}");
+}
+
+/// The answer sheet of a leaf to one of the two strict questions, which both sides of the port give.
+fn compare_strictly(asked: Asked, sheet: &[u8], leaf: &weighpick::Leaf, out: &mut [u8]) -> Vec<u8> {
+    let (number, count) = strictly(asked, sheet, out);
+    let written = &out[..count as usize];
+    assert_eq!(number, number::WRITTEN, "{leaf}");
+    let typed = rust_crate::strictly(asked, leaf).expect("no refusal");
+    assert_eq!(typed.expect("a predicate").as_bytes(), written, "{leaf}");
+    written.to_vec()
 }

@@ -17,6 +17,7 @@ impl Row {
     pub fn all(kinds: &[Kind]) -> Vec<Row> {
         let times = best_of_laps(kinds, |kind| match kind {
             Kind::Projection(kind) => sides::time_projection(kind),
+            Kind::Older(kind) => sides::time_older(kind),
             Kind::Transform(kind) => sides::time_transform(kind),
             Kind::Holds(kind) => sides::time_holds(kind),
             Kind::Verdict(kind) => sides::time_verdict(kind),

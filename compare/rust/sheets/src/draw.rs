@@ -42,6 +42,16 @@ impl Draw {
         self.below(MICROS).to_le_bytes().to_vec()
     }
 
+    /// A date from before 1970: all have negative partition values.
+    pub fn early_date(&mut self) -> Vec<u8> {
+        (-1 - self.below(DAYS) as i32).to_le_bytes().to_vec()
+    }
+
+    /// A moment from before 1970.
+    pub fn early_moment(&mut self) -> Vec<u8> {
+        (-1 - self.below(MICROS) as i64).to_le_bytes().to_vec()
+    }
+
     pub fn lot_code(&mut self) -> Vec<u8> {
         self.letters(LOT_CODE)
     }
