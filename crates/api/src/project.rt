@@ -1,4 +1,4 @@
-// The two projections of a sheet: the Rust's `Transform::project` and `strict_project` (src/spec/transform.rs), over bytes.
+// The projections of a sheet: the Rust's `Transform::project` and `strict_project` (src/spec/transform.rs), over bytes, and 02's strict one for older files.
 use answers::answer::Answer;
 use answers::project::project_leaf;
 use expr::operator::HOLDS_LIMIT;

@@ -40,7 +40,7 @@ rowAnswer cells l = testedSheet (sheetOf l) (rowAt cells (l .place))
 abbrev pub withoutPredicate : Question → Bool
 withoutPredicate Inclusive = true
 withoutPredicate Strict = false
--- never met: "filters .. keep two questions"
+-- no routine asks it: 02, #107, "filters .. keep two questions"
 withoutPredicate Older = false
 
 abbrev pub accepted : {B : Type 0} → Tests B → Question → Projected (Predicate B) → Row B → Bool

@@ -1,2 +1,2 @@
-// The steps of both projections for a literal of a whole-number or time column (src/spec/transform.rs).
+// The steps of the projections for a literal of a whole-number or time column (src/spec/transform.rs).
 pub mod steps;

@@ -1,4 +1,5 @@
--- Lifting, the Rust's `adjust_time_projection`: an inclusive predicate asks for the value above a negative one too. Assumes nothing.
+-- Lifting, the Rust's `adjust_time_projection`: an inclusive predicate asks for the value above a negative one too; and what 02 asks of a strict one for files of
+-- older writers. Assumes nothing.
 use mathlib.Core.Bool.{Bool, true, false}
 use mathlib.Core.List.{List, [], _∷_}
 use mathlib.Core.Path.{_≡_, refl}

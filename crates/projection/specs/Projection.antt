@@ -1,4 +1,4 @@
--- The two projections of a leaf: what it comes to on the partition values of a column's transform. Assumes nothing.
+-- The projections of a leaf, by the question: what it comes to on the partition values of a column's transform. Assumes nothing.
 use Prim.Native.Nat.{ℕ}
 use mathlib.Core.Bool.{Bool, true, false, cond}
 use mathlib.Core.List.{List}

@@ -178,7 +178,7 @@ fn truncate_array_strict(
     }
 }
 
-// Either projection of a leaf with one String or Binary.
+// The projection of a leaf with one String or Binary.
 pub fn project_bytes(
     question: Question,
     column: PrimitiveType,

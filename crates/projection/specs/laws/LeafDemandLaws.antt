@@ -128,7 +128,7 @@ numbers-inclusive-exact column transform leaf q fine e =
     let c = course compareNumbers (numberStep column transform Inclusive) transform leaf q e in
     rw (number-rows column transform (c .0)) (inclusive-course column transform leaf q fine (c .1))
 
--- ---- strings and binaries, of either question
+-- ---- strings and binaries, of any question
 
 -- Truncate cuts a String by its code points, a Binary by its bytes
 bytes-cutting : (column : PrimitiveType) (w : ℕ) → Cutting (HeldIn column) (lengthOf column) w (truncateBytes column w)

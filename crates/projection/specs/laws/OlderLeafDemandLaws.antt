@@ -90,7 +90,7 @@ module _ (column : PrimitiveType) (T : ℤ → Res ℤ) where
         (λ q e. rw (older-if-opposite lifts q) (leads lifts x q e))
         (inclusive-exact column T mono (opposite x) fine)))
 
--- ---- from numbers to rows, for either question: a missing row is filed under the missing value
+-- ---- from numbers to rows, for any question: a missing row is filed under the missing value
 module _ (column : PrimitiveType) (transform : Transform) where
   abbrev under : ℤ → Res ℤ
   under = numberUnder column transform

@@ -1,4 +1,4 @@
--- From present values to rows, for either question: nothing is lost of a row where nothing is lost of its value. Assumes nothing.
+-- From present values to rows, for any question: nothing is lost of a row where nothing is lost of its value. Assumes nothing.
 use mathlib.Core.Bool.{Bool, true}
 use mathlib.Core.Path.{_≡_, sym, ap, _∙_}
 use Rattle.values.specs.Outcomes.{Res, ok, Row, missing, present}
