@@ -4,9 +4,8 @@ use crate::answer::RECORD;
 use crate::leaf::Leaf;
 use expr::operator::HOLDS_LIMIT;
 use numbers::steps::NumberProjection;
-use numbers::steps::is_lifted;
+use numbers::steps::lifts_for;
 use numbers::steps::project_number;
-use projection::question::Question;
 use sets::number::Collected;
 use sets::number::project_set_expr;
 use sheet::literal::number_of;
@@ -24,7 +23,7 @@ ghost use Rattle.expr.specs.Operators.{byArity};
 ghost use Rattle.expr.specs.code.OperatorAnswers.{takesOne, takesMany};
 ghost use Rattle.numbers.specs.code.Boundaries.{numberProjected};
 ghost use Rattle.answers.specs.code.Settled.{Settled};
-ghost use Rattle.answers.specs.code.Leaves.{numberSteps, numberLeafAt, oneWritten, NumbersIn, keeps, NumberColumn, ReadyLeaf, liftsFor};
+ghost use Rattle.answers.specs.code.Leaves.{numberSteps, numberLeafAt, oneWritten, NumbersIn, keeps, NumberColumn, ReadyLeaf};
 ghost use Rattle.write.specs.Written.{sheetBuffer};
 
 // The projection of the one literal, written.
@@ -70,17 +69,6 @@ pub fn project_one(x: Leaf, s: &[u8], records: &[u16], out: &mut [u8]) -> Answer
     )
 }
 
-// Whether the set is lifted.
-fn lifts_set(question: Question, column: PrimitiveType, transform: Transform) -> bool
-    ensures { λ r. ⌜ r ≡ liftsFor question column transform ⌝ }
-{
-    match question {
-        Question::Inclusive => is_lifted(column, transform),
-        Question::Strict => false,
-        Question::Older => is_lifted(column, transform),
-    }
-}
-
 // A leaf with a set that has a projection.
 pub fn project_set(x: Leaf, s: &[u8], records: &[u16], out: &mut [u8]) -> Answer
     requires { ⌜ NumberColumn (x .column) ⌝ }
@@ -94,7 +82,7 @@ pub fn project_set(x: Leaf, s: &[u8], records: &[u16], out: &mut [u8]) -> Answer
     let column = x.column;
     let transform = x.transform;
     let to = x.to;
-    let lifts = lifts_set(question, column, transform);
+    let lifts = lifts_for(question, column, transform);
     let mut set = [0; HOLDS_LIMIT];
     match project_set_expr(s, records, x.count, column, transform, lifts, &mut set) {
         Collected::Err(e) => Answer::Err(e),

@@ -2,12 +2,14 @@
 use Prim.Native.Nat.{ℕ}
 use mathlib.Core.Bool.{Bool, true, false, cond}
 use mathlib.Core.List.{[], _∷_, map}
+use mathlib.Core.Logic.{⊎-elim}
 use mathlib.Core.Path.{_≡_, refl, sym, ap, _∙_}
 use lib.IntN.{ℤ, pos, negsuc, sucℤ, predℤ, _+ℤ_, _-ℤ_, +ℤ-one, -ℤ-one}
 use lib.Signed.{_≤ℤ_, _<ℤ_}
 use mir.Syntax.{w64}
 use mir.Val.{SFits, toZ, ofZ}
 use types.Run.{OneOf}
+use denote.Enum.Declared.{tagOf}
 use Rattle.values.specs.laws.IntLaws.{ints}
 use Rattle.values.specs.laws.SignedLaws.{back}
 use Rattle.values.specs.Outcomes.{Res, ok, err, _>>=_, Row, missing, present}
@@ -30,7 +32,7 @@ use Rattle.expr.specs.code.OperatorAnswers.{takesOne}
 use Rattle.expr.specs.Predicates.{set}
 use Rattle.expr.specs.declared.operator.PredicateOperator.{PredicateOperator}
 use Rattle.expr.specs.declared.operator.PredicateOperator.the-variants.{LessThan, LessThanOrEq, GreaterThan, GreaterThanOrEq, Eq, NotEq}
-use Rattle.projection.specs.code.OneLiteral.{oneTest}
+use Rattle.projection.specs.code.OneLiteral.{oneTest, liftsFor}
 use Rattle.numbers.specs.code.Boundaries.{numberLeaf, neighbour, inclusiveBoundary, strictBoundary, raise, raisedBy, atBoundary, OneAt, numberProjected}
 use Rattle.numbers.specs.laws.BoundaryLaws.{inclusive-at, strict-at, older-at}
 use Rattle.projection.specs.Lifting.{lifted}
@@ -39,7 +41,10 @@ use Rattle.projection.specs.Steps.{some, mapped, valueIn}
 use Rattle.numbers.specs.declared.steps.Boundary.{Boundary}
 use Rattle.numbers.specs.declared.steps.Boundary.the-variants as boundary
 use Rattle.numbers.specs.declared.steps.NumberProjection.{NumberProjection}
-use Rattle.projection.specs.declared.question.Question.the-variants.{Inclusive, Strict, Older}
+use Rattle.projection.proofs.QuestionArms.{strictTags, strict-question}
+use Rattle.projection.proofs.question.Question.{the-type}
+use Rattle.projection.specs.declared.question.Question.{Question}
+use Rattle.projection.specs.declared.question.Question.the-variants.{Inclusive}
 
 -- v as a local holds it: `seen v` is v where 64 bits hold v
 abbrev pub seen : ℤ → ℤ
@@ -227,10 +232,12 @@ module _ (column : PrimitiveType) (transform : Transform) (o : PredicateOperator
       → b ≡ inclusiveBoundary column (byArity o) (seen l) → numberProjected p ≡ numberLeaf Inclusive column transform (byArity o) l
   inclusive-leaf lifts d told is = d ∙ rw (told, is, back f) (sym (inclusive-at column transform (byArity o) l))
 
-  pub strict-leaf : numberProjected p ≡ atBoundary false (numberUnder column transform) b → b ≡ strictBoundary column (byArity o) (seen l)
-      → numberProjected p ≡ numberLeaf Strict column transform (byArity o) l
-  strict-leaf d is = d ∙ rw (is, back f) (sym (strict-at column transform (byArity o) l))
+  pub strict-leaf : (raised : Bool) → numberProjected p ≡ atBoundary raised (numberUnder column transform) b → b ≡ strictBoundary column (byArity o) (seen l)
+      → numberProjected p ≡ atBoundary raised (numberUnder column transform) (strictBoundary column (byArity o) l)
+  strict-leaf raised d is = d ∙ rw (is, back f)
 
-  pub older-leaf : (lifts : Bool) → numberProjected p ≡ atBoundary lifts (numberUnder column transform) b → lifts ≡ lifted column transform
-      → b ≡ strictBoundary column (byArity o) (seen l) → numberProjected p ≡ numberLeaf Older column transform (byArity o) l
-  older-leaf lifts d told is = d ∙ rw (told, is, back f) (sym (older-at column transform (byArity o) l))
+-- a question that is not inclusive
+pub not-inclusive-leaf : (question : Question) (column : PrimitiveType) (transform : Transform) (a : Operator) (l : ℤ) → OneOf strictTags (tagOf the-type question)
+    → atBoundary (liftsFor question column transform) (numberUnder column transform) (strictBoundary column a l) ≡ numberLeaf question column transform a l
+not-inclusive-leaf question column transform a l m =
+    ⊎-elim (λ is. rw is (sym (strict-at column transform a l))) (λ is. rw is (sym (older-at column transform a l))) (strict-question question m)

@@ -17,9 +17,9 @@ ghost use Rattle.expr.specs.code.OperatorAnswers.{takesOne};
 ghost use Rattle.projection.specs.Lifting.{lifted};
 ghost use Rattle.projection.specs.Projection.{numberUnder};
 ghost use Rattle.projection.specs.Steps.{mapped};
-ghost use Rattle.projection.specs.code.OneLiteral.{oneTest};
+ghost use Rattle.projection.specs.code.OneLiteral.{oneTest, liftsFor};
 ghost use Rattle.numbers.specs.code.Boundaries.{numberLeaf, neighbour, inclusiveBoundary, strictBoundary, raise, atBoundary, numberProjected, OneAt, OneIn};
-ghost use Rattle.projection.specs.declared.question.Question.the-variants.{Inclusive, Strict, Older};
+ghost use Rattle.projection.specs.declared.question.Question.the-variants.{Inclusive};
 
 // The operator that a row of the table has, and the literal that is to be transformed: none where the row has no predicate.
 pub enum Boundary {
@@ -133,6 +133,17 @@ pub fn is_lifted(column: PrimitiveType, transform: Transform) -> bool
     }
 }
 
+// Whether a question lifts what it is answered: strict never does, but for older files.
+pub fn lifts_for(question: Question, column: PrimitiveType, transform: Transform) -> bool
+    ensures { λ r. ⌜ r ≡ liftsFor question column transform ⌝ }
+{
+    match question {
+        Question::Inclusive => is_lifted(column, transform),
+        Question::Strict => false,
+        Question::Older => is_lifted(column, transform),
+    }
+}
+
 // Lifting: with a negative number, ≤ uses the one above, and Eq becomes In of both. For older files so do > and NotEq, which becomes NotIn: no operator is of
 // both.
 fn adjust_time_projection(operator: PredicateOperator, t: i64) -> NumberProjection
@@ -197,34 +208,20 @@ fn project_binary_with_adjusted_boundary(
     project_boundary(column, transform, boundary, is_lifted(column, transform))
 }
 
-// The strict projection.
+// The strict projection, raised for older files.
 fn truncate_number_strict(
     column: PrimitiveType,
     transform: Transform,
     operator: PredicateOperator,
     l: i64,
+    raised: bool,
 ) -> NumberProjection
     requires { ⌜ inType column l ≡ true ⌝ }
-    ensures projected { λ r. ⌜ numberProjected r ≡ numberLeaf Strict column transform (byArity operator) l ⌝ }
+    ensures projected { λ r. ⌜ numberProjected r ≡ atBoundary raised (numberUnder column transform) (strictBoundary column (byArity operator) l) ⌝ }
     ensures one { λ r. ⌜ OneIn r ⌝ }
 {
     let boundary = strict_boundary(column, operator, l);
-    project_boundary(column, transform, boundary, false)
-}
-
-// The strict projection for older files.
-fn truncate_number_older(
-    column: PrimitiveType,
-    transform: Transform,
-    operator: PredicateOperator,
-    l: i64,
-) -> NumberProjection
-    requires { ⌜ inType column l ≡ true ⌝ }
-    ensures projected { λ r. ⌜ numberProjected r ≡ numberLeaf Older column transform (byArity operator) l ⌝ }
-    ensures one { λ r. ⌜ OneIn r ⌝ }
-{
-    let boundary = strict_boundary(column, operator, l);
-    project_boundary(column, transform, boundary, is_lifted(column, transform))
+    project_boundary(column, transform, boundary, raised)
 }
 
 // The projection of a leaf with one number, which is of the column's type.
@@ -239,11 +236,9 @@ pub fn project_number(
     ensures projected { λ r. ⌜ numberProjected r ≡ numberLeaf question column transform (byArity operator) l ⌝ }
     ensures one { λ r. ⌜ OneIn r ⌝ }
 {
-    match question {
-        Question::Inclusive => {
-            project_binary_with_adjusted_boundary(column, transform, operator, l)
-        }
-        Question::Strict => truncate_number_strict(column, transform, operator, l),
-        Question::Older => truncate_number_older(column, transform, operator, l),
+    if let Question::Inclusive = question {
+        return project_binary_with_adjusted_boundary(column, transform, operator, l);
     }
+    let raised = lifts_for(question, column, transform);
+    truncate_number_strict(column, transform, operator, l, raised)
 }

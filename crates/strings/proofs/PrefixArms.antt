@@ -3,11 +3,13 @@ use Prim.Native.Nat.{ℕ, _≤_, _<_}
 use native.Mathlib.Omega.{arith}
 use mathlib.Core.Bool.{Bool, true, false, cond}
 use mathlib.Core.List.{List, map}
+use mathlib.Core.Logic.{⊎-elim}
 use mathlib.Core.Path.{_≡_, refl, sym, ap, _∙_}
 use lib.Dec.{eqb, ltb, leb}
 use lib.ListN.{length, take, length-take}
 use lib.Seq.{take-length}
 use types.Run.{OneOf}
+use denote.Enum.Declared.{tagOf}
 use borrow.Author.Tests.{eqb-true, eqb-false, ltb-true, ltb-false, eq-eqb, ne-eqb, lt-ltb, le-ltb, le-leb, lt-leb}
 use Rattle.values.specs.Outcomes.{ok}
 use Rattle.values.specs.Types.{sameType}
@@ -30,6 +32,8 @@ use Rattle.projection.specs.Projection.{lengthOf}
 use Rattle.projection.specs.laws.LeafDemandLaws.{whole-stays}
 use Rattle.projection.specs.Steps.{some, none}
 use Rattle.strings.specs.declared.steps.BytesProjection.{BytesProjection}
+use Rattle.projection.proofs.QuestionArms.{strictTags, strict-question, asked-strict}
+use Rattle.projection.proofs.question.Question.{the-type}
 use Rattle.projection.specs.declared.question.Question.{Question}
 use Rattle.projection.specs.declared.question.Question.the-variants.{Inclusive, Strict, Older}
 
@@ -47,12 +51,16 @@ module _ (column : PrimitiveType) (width : ℕ) (l t : List ℕ) (d : t ≡ trun
 
 pub ruleset truncated = (truncated-prefix, no-longer-cut)
 
--- Older is Strict here
-pub older-leaf : (column : PrimitiveType) (width : ℕ) (a : Operator) (l : List ℕ)
+-- for older files a leaf is projected as strictly
+older-leaf : (column : PrimitiveType) (width : ℕ) (a : Operator) (l : List ℕ)
     → bytesLeaf Strict column (Truncate width) a l ≡ bytesLeaf Older column (Truncate width) a l
 older-leaf column width (operators.none o) l = refl
 older-leaf column width (operators.one o) l = refl
 older-leaf column width (operators.many o) l = refl
+
+pub not-inclusive-leaf : (question : Question) (column : PrimitiveType) (width : ℕ) (a : Operator) (l : List ℕ) → OneOf strictTags (tagOf the-type question)
+    → bytesLeaf Strict column (Truncate width) a l ≡ bytesLeaf question column (Truncate width) a l
+not-inclusive-leaf question column width a l m = ⊎-elim (λ is. rw is) (λ is. rw is (older-leaf column width a l)) (strict-question question m)
 
 -- ---- by L's length
 -- L is all of its own bytes
@@ -78,13 +86,10 @@ module _ (n width : ℕ) (column : PrimitiveType) (l : List ℕ) (counted : n �
     pub longer-inclusive : question ≡ Inclusive → r ≡ inclusive → r ≡ chosen whole part (asked question inclusive strict)
     longer-inclusive is d = rw (longer, is) d
 
-    pub longer-strict : question ≡ Strict → r ≡ strict → r ≡ chosen whole part (asked question inclusive strict)
-    longer-strict is d = rw (longer, is) d
+    pub longer-strict : OneOf strictTags (tagOf the-type question) → r ≡ strict → r ≡ chosen whole part (asked question inclusive strict)
+    longer-strict m d = rw (longer, asked-strict question inclusive strict m) d
 
-    pub longer-older : question ≡ Older → r ≡ strict → r ≡ chosen whole part (asked question inclusive strict)
-    longer-older is d = rw (longer, is) d
-
-pub ruleset by-length = (no-longer, as-long, shorter, longer-inclusive, longer-strict, longer-older)
+pub ruleset by-length = (no-longer, as-long, shorter, longer-inclusive, longer-strict)
 
 -- where the operator stays at the width, a literal up to it is its own T(L)
 module _ (column : PrimitiveType) (width : ℕ) (l : List ℕ) where

@@ -66,11 +66,10 @@ fn project_starts_with(
     if n < width as usize {
         return BytesProjection::Prefix(PredicateOperator::StartsWith, l.len());
     }
-    match question {
-        Question::Inclusive => truncate_array(column, width, PredicateOperator::StartsWith, l),
-        Question::Strict => BytesProjection::None,
-        Question::Older => BytesProjection::None,
+    if let Question::Inclusive = question {
+        return truncate_array(column, width, PredicateOperator::StartsWith, l);
     }
+    BytesProjection::None
 }
 
 // NotStartsWith alike; a longer literal has none where that of StartsWith has T, and T where it has none.
@@ -93,11 +92,10 @@ fn project_not_starts_with(
     if n < width as usize {
         return BytesProjection::Prefix(PredicateOperator::NotStartsWith, l.len());
     }
-    match question {
-        Question::Inclusive => BytesProjection::None,
-        Question::Strict => truncate_array(column, width, PredicateOperator::NotStartsWith, l),
-        Question::Older => truncate_array(column, width, PredicateOperator::NotStartsWith, l),
+    if let Question::Inclusive = question {
+        return BytesProjection::None;
     }
+    truncate_array(column, width, PredicateOperator::NotStartsWith, l)
 }
 
 // The inclusive projection. A Binary as long as the width keeps StartsWith and NotStartsWith, where a String has Eq and NotEq.
@@ -178,7 +176,7 @@ fn truncate_array_strict(
     }
 }
 
-// The projection of a leaf with one String or Binary.
+// The projection of a leaf with one String or Binary. No transform of theirs is lifted: for older files it is the strict one.
 pub fn project_bytes(
     question: Question,
     column: PrimitiveType,
@@ -190,9 +188,8 @@ pub fn project_bytes(
     ensures short { λ r. ⌜ NoLonger (length (now (l .entry))) r ⌝ }
     ensures one { λ r. ⌜ OneLiteral r ⌝ }
 {
-    match question {
-        Question::Inclusive => project_array(column, width, operator, l),
-        Question::Strict => truncate_array_strict(column, width, operator, l),
-        Question::Older => truncate_array_strict(column, width, operator, l),
+    if let Question::Inclusive = question {
+        return project_array(column, width, operator, l);
     }
+    truncate_array_strict(column, width, operator, l)
 }

@@ -17,7 +17,6 @@ use Rattle.expr.specs.Operators.{Operator, none, one, many, isIn, notIn, byArit
 use Rattle.expr.specs.code.OperatorAnswers.{takesOne, takesMany, takes, leafOf}
 use Rattle.expr.specs.Predicates.{Test, Predicate, test}
 use Rattle.expr.specs.declared.operator.PredicateOperator.{PredicateOperator}
-use Rattle.projection.specs.Lifting.{lifted}
 use Rattle.projection.specs.Projection.{byTransform, numberStep, bytesStep}
 use Rattle.projection.specs.Steps.{Projected, mapped}
 use Rattle.numbers.specs.declared.steps.NumberProjection.{NumberProjection}
@@ -82,12 +81,6 @@ NumbersIn to number-projection.None = Unit {0}
 NumbersIn to (number-projection.One o t) = (inType to t ≡ true) × (takesOne (byArity o) ≡ true)
 NumbersIn to (number-projection.Two o t) = (inType to t ≡ true) × (inType to (sucℤ t) ≡ true) × (takesMany (byArity o) ≡ true)
 NumbersIn to (number-projection.Err e) = Unit {0}
-
--- whether a set is lifted
-abbrev pub liftsFor : Question → PrimitiveType → Transform → Bool
-liftsFor Inclusive column transform = lifted column transform
-liftsFor Strict column transform = false
-liftsFor Older column transform = lifted column transform
 
 -- Void and Unknown have no steps
 abbrev pub hasSteps : Transform → Bool

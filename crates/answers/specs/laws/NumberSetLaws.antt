@@ -23,6 +23,7 @@ use Rattle.expr.specs.laws.PredicateLaws.{operator-of}
 use Rattle.expr.specs.Predicates.{Predicate, test, set}
 use Rattle.projection.specs.Projection.{byTransform, numberStep}
 use Rattle.projection.specs.Steps.{Projected, some, mapped}
+use Rattle.projection.specs.code.OneLiteral.{liftsFor}
 use Rattle.projection.specs.declared.question.Question.{Question}
 use Rattle.projection.specs.declared.question.Question.the-variants.{Inclusive, Strict, Older}
 use Rattle.sheet.specs.code.ReadAnswers.{numbersAt}
@@ -33,7 +34,7 @@ use Rattle.sets.specs.code.Sets.{numberSet, collected, Filled}
 use Rattle.sets.specs.declared.number.Collected.the-variants as collected-as
 use Rattle.answers.specs.code.Settled.{Settled}
 use Rattle.answers.specs.laws.CollectedLaws.{found-count, found-error}
-use Rattle.answers.specs.code.Leaves.{numbersWritten, numberSteps, numberLeafAt, liftsFor, hasSteps, keptBy, keeps, ReadyLeaf, NumberColumn}
+use Rattle.answers.specs.code.Leaves.{numbersWritten, numberSteps, numberLeafAt, hasSteps, keptBy, keeps, ReadyLeaf, NumberColumn}
 use Rattle.answers.specs.laws.NumberLeafLaws.{predicate-written, numbers-inside}
 use Rattle.answers.specs.laws.OneLiteralLaws.{takes-many}
 use Rattle.answers.specs.laws.SettledLaws.{settled-refused}

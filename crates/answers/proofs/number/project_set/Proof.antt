@@ -16,11 +16,11 @@ use Rattle.answers.proofs.number.project_set.Tie as tie
 module _ (c : tie.After-project-set-expr) where
   told : let a = c .before .before .before .before .before .before .args in
       collected (setAt (a .x) (now (a .s)) (now (a .records))) ≡ c .project-set-expr .result
-  told = sym (c .project-set-expr .ensures .0 ∙ rw (c .before .before .lifts-set .ensures))
+  told = sym (c .project-set-expr .ensures .0 ∙ rw (c .before .before .lifts-for .ensures))
 
   filled : let a = c .before .before .before .before .before .before .args in
       Filled (setAt (a .x) (now (a .s)) (now (a .records))) (c .project-set-expr .last .1 .1 .1 .1 .1 .1 .0)
-  filled = rw (← c .before .before .lifts-set .ensures) (c .project-set-expr .ensures .1)
+  filled = rw (← c .before .before .lifts-for .ensures) (c .project-set-expr .ensures .1)
 
 project-set-expr-requires : tie.Need-project-set-expr-requires
 project-set-expr-requires c κs = let h = ap isBytes (c .before .before .before .before .before .pre .0 .is) in search needs

@@ -1,6 +1,9 @@
 -- `numbers::steps::project_number` meets its contract. Assumes nothing.
+use mathlib.Core.Path.{_∙_}
 use Rattle.values.specs.laws.SignedLaws.{back}
 use Rattle.partition.proofs.NumberArms.{seen-inside}
+use Rattle.expr.specs.Operators.{byArity}
+use Rattle.numbers.proofs.StepArms.{not-inclusive-leaf}
 use borrow.Author.Needs.{needs}
 use Rattle.numbers.proofs.steps.project_number.Statement.{statement}
 use Rattle.numbers.proofs.steps.project_number.Tie as tie
@@ -12,16 +15,16 @@ returns c = (
 )
 
 returns-2 : tie.Need-returns-2
-returns-2 c = (
-  rw (c .before .enum-told2 .given .1) (rw (back (c .before .before .before .fits .l)) at (c .truncate-number-strict .ensures .0)),
-  c .truncate-number-strict .ensures .1,
-)
-
-returns-3 : tie.Need-returns-3
-returns-3 c = (
-  rw (c .before .enum-told3 .given .1) (rw (back (c .before .before .before .fits .l)) at (c .truncate-number-older .ensures .0)),
-  c .truncate-number-older .ensures .1,
-)
+returns-2 c =
+    let k = c .before in
+    let other = k .before in
+    let s = other .before in
+    let a = s .args in
+    let e = c .truncate-number-strict .ensures in (
+      (rw (back (s .fits .l), k .lifts-for .ensures) at (e .0))
+          ∙ not-inclusive-leaf (a .question) (a .column) (a .transform) (byArity (a .operator)) (a .l) (other .match .keys2),
+      e .1,
+    )
 
 pub project-number-spec : {M : Type 1} → statement M
 project-number-spec =
@@ -29,10 +32,7 @@ project-number-spec =
     (tie.spec
     (search needs)
     (λ c κs. search seen-inside)
-    (search needs)
-    (λ c κs. search seen-inside)
-    (search needs)
-    (λ c κs. search seen-inside)
     returns
-    returns-2
-    returns-3)
+    (search needs)
+    (λ c κs. search seen-inside)
+    returns-2)

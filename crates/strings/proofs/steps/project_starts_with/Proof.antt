@@ -13,8 +13,5 @@ project-starts-with-spec =
     (λ c. search by-length)
     (search needs)
     (search needs)
-    (search needs)
-    (search needs)
-    (λ c. search by-length)
     (λ c. search by-length)
     (λ c. search by-length))

@@ -1,0 +1,2 @@
+-- Lemmas that the proofs of the crates above share.
+pub mod QuestionArms
