@@ -22,6 +22,15 @@ ghost use Rattle.files.specs.TestSummary.{testAnswer, testLeaves};
 ghost use Rattle.filter.specs.FilterRoutines.{filterRow, filterParts};
 ghost use Rattle.pool.specs.Handed.{poolNumber, toldLowest, toldHighest, toldFlag};
 ghost use Rattle.pool.specs.Pooling as pooling;
+ghost use Rattle.weighpick_c.specs.Version.{version};
+
+// Tells which library this is, for a caller that was built with another one's header.
+#[no_mangle]
+pub extern "C" fn weighpick_version() -> u32
+    ensures { λ r. ⌜ r ≡ version ⌝ }
+{
+    9_000
+}
 
 // Sets the count of an answer, and gives its number.
 fn told(answer: Answer, count: &mut u64) -> u32

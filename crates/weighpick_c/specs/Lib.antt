@@ -1,0 +1,2 @@
+-- The definitions of `weighpick_c`.
+pub mod Version
