@@ -1,12 +1,18 @@
--- The record of a number, or of none, is bytes. Assumes nothing.
+-- The record of a number, or of none, is bytes; and so is a list whose members are looked at. Assumes nothing.
 use Prim.Native.Nat.{ℕ, zero, suc, _-_}
 use native.Mathlib.Omega.{arith}
+use mathlib.Core.Bool.{true}
 use mathlib.Core.List.{List, [], _∷_, _++_}
+use mathlib.Core.Path.{_≡_}
+use lib.Dec.{ltb}
 use lib.IntN.{ℤ}
 use lib.ListN.{length, replicate}
+use borrow.Author.Tests.{ltb-true}
 use Rattle.values.specs.Outcomes.{Row, missing, present}
+use Rattle.values.specs.SomeEvery.{every}
 use Rattle.values.specs.Types.{Layout, number, bytes, contentSize, layout}
 use Rattle.values.specs.Words.{leBytes, unsigned, AllBytes}
+use Rattle.values.specs.laws.TestLaws.{and-both}
 use Rattle.values.specs.laws.WordLaws.{all-bytes}
 use Rattle.values.specs.declared.datatypes.PrimitiveType.{PrimitiveType}
 use Rattle.sheet.specs.Records.{missingMark}
@@ -37,3 +43,8 @@ record-bytes ty (present z) =
     let bs = numberBytes (layout ty) z in
     fields 0 (length bs) (bs ++ replicate (contentSize - length bs) 0)
     (both-bytes bs (replicate (contentSize - length bs) 0) (number-bytes (layout ty) z) (zeros (contentSize - length bs)))
+
+pub looked-at : (bs : List ℕ) → every (λ b. ltb b 256) bs ≡ true → AllBytes bs
+looked-at [] h i = omega arith
+looked-at (b ∷ bs) h zero = ltb-true b 256 (and-both (ltb b 256) (every (λ x. ltb x 256) bs) h .0)
+looked-at (b ∷ bs) h (suc i) = looked-at bs (and-both (ltb b 256) (every (λ x. ltb x 256) bs) h .1) i

@@ -1,6 +1,6 @@
 -- Demand 3 is about something: for each of its clauses a sheet, a row, its partition value and an answer sheet that meet what the clause asks; for the two on
 -- losing and letting in, also those of a Binary column, and a missing row of it; for the one on strict exactness, a missing row of an Int column. What is public
--- here serves `filedemand` too. Assumes nothing.
+-- here serves `filedemand` and `filterdemand` too. Assumes nothing.
 use Prim.Native.Nat.{ℕ}
 use native.Mathlib.Omega.{arith}
 use mathlib.Core.List.{List, [], _∷_}
@@ -55,13 +55,13 @@ atMost290 = answerSheet Int (test (binary lessThanOrEq (int (pos 290))))
 abbrev pub less300 : List ℕ
 less300 = answerSheet Int (test (binary lessThan (int (pos 300))))
 
-abbrev five : List ℕ
+abbrev pub five : List ℕ
 five = intValue (pos 5)
 
-abbrev nought : List ℕ
+abbrev pub nought : List ℕ
 nought = intValue (pos 0)
 
-row-of-nought : RowOf below300 nought five
+pub row-of-nought : RowOf below300 nought five
 unfolding transformValue head transformOf value content transformedRow resultType numberPartition partition transformNumber inType truncated floorMod
 row-of-nought = refl
 
@@ -73,7 +73,7 @@ accepted : Accepts below300 five × Accepts less300 nought
 unfolding holdsTest sheet fields head transformOf value content testedSheet compareNumbers answerSheet
 accepted = (refl, refl)
 
-numeric : Numeric below300
+pub numeric : Numeric below300
 numeric = omega arith
 
 pub no-row-lost-asks : (s q v p : List ℕ) × RowOf s p v × Accepts s v × Returns Inclusive s q

@@ -4,7 +4,7 @@ use Prim.Native.Nat.{ℕ, _*_, _≤_}
 use native.Mathlib.Omega.{arith}
 use mathlib.Core.Bool.{Bool, true}
 use mathlib.Core.List.{List, map, List·Memᴰ as Isin, List·Memᴰ·head as here, Memᴰ·append-left as isin-left, Memᴰ·append-right as isin-right}
-use mathlib.Core.Logic.{inl}
+use mathlib.Core.Logic.{inl, _↔_}
 use mathlib.Core.Path.{_≡_, refl, sym, ap, subst, _∙_}
 use Rattle.values.specs.Outcomes.{ok}
 use Rattle.values.specs.laws.OutcomeLaws.{ok-inj, going, gone}
@@ -18,7 +18,7 @@ use Rattle.sheet.specs.Records.{recordSize, recordAt}
 use Rattle.sheet.specs.Sheets.{Head, head, sheet}
 use Rattle.meets.specs.Tested.{testedSheet}
 use Rattle.answers.specs.Answers.{projectedLeaf}
-use Rattle.api.specs.Demand3.{typeIn, transformIn, widthIn, RowOf}
+use Rattle.api.specs.Demand3.{typeIn, transformIn, widthIn, RowOf, Accepts}
 use Rattle.api.specs.OlderDemand.{Filed}
 use Rattle.api.specs.HoldsTest.{holdsTest}
 use Rattle.api.specs.Routines.{projectSheet}
@@ -28,10 +28,11 @@ use Rattle.grammar.specs.Filters.{Filter, leaf, either, both, opposite, bracket
 use Rattle.leaves.specs.Fitting.{Leaf}
 use Rattle.ask.specs.LeafAnswers.{predicateIn, rowAnswer, partAnswer}
 use Rattle.filter.specs.FilterDemand.{headAt, placesIn, Kept, FilterLosesNoRow, FilterStrictIsSafe, sheetIn, byReturned}
-use Rattle.filter.specs.FilterDemand.{OneLeafRow, OneLeafParts, FiltersLoseNothing}
+use Rattle.filter.specs.FilterDemand.{IsLeaf, OneLeafRow, OneLeafParts, OneLeafAsked, OneLeafStrictIsExact, OneLeafInclusiveIsExact, FiltersLoseNothing}
 use Rattle.filter.specs.OlderFilterDemand.{FilterLosesNoOlderRow}
 use Rattle.parse.specs.FilterText.{filterIn, turn}
 use Rattle.filter.specs.FilterRoutines.{filterRow, filterParts}
+use Rattle.demand.proofs.Demand3Proof.{demand3}
 use Rattle.demand.proofs.ReadBackLaws.{sheetOf}
 use Rattle.filterdemand.proofs.ListedCells.{CellAt, cells-columns, column-head, cell-at}
 use Rattle.filterdemand.proofs.FittedLaws.{Fitted, leaf-fitted, turn-fitted}
@@ -172,24 +173,57 @@ module _ (side : Side) (c v : List ℕ) (cells : List Cell) (a : cellsOf side c 
       held-whole (l .head .transform)
       (omega (arith, width-is, word-step 8 3 s, word-step 9 2 s, word-step 10 1 s, word-step 11 0 s, bytes 8, bytes 9, bytes 10, bytes 11))
 
+-- a text that is one leaf, turned or not: the leaf is fitted
+leaf-of : (cells : List Cell) (t : List ℕ) (l : Leaf) → IsLeaf cells t l → Fitted (columnsOf cells) l
+leaf-of cells t l (f, e, is) =
+    let cs = columnsOf cells in
+    subst (EveryTurned (Fitted cs)) is (straight-every (Fitted cs) turn (turn-fitted cs) f (all-fitted cs t f e) .0)
+
 one-leaf-row : OneLeafRow
 unfolding filterRow holdsTest rowAnswer testedSheet
-one-leaf-row c t v cells l a e =
-    let f = all-fitted (columnsOf cells) t (leaf l) e in
-    going _ a ∙ going _ e ∙ sym (going _ (leaf-read rows c v cells a l f holdsLimit (omega arith)) ∙ going _ (leaf-cell rows c v cells a l f .value-is))
+one-leaf-row c t v cells l a h =
+    let f = leaf-of cells t l h in
+    going _ a ∙ going _ (h .1) ∙ ap (answered (rowAnswer cells)) (h .2)
+    ∙ sym (going _ (leaf-read rows c v cells a l f holdsLimit (omega arith)) ∙ going _ (leaf-cell rows c v cells a l f .value-is))
 
 one-leaf-parts : OneLeafParts
 unfolding filterParts projectSheet
-one-leaf-parts question c t p cells l bytes a e =
-    let f = all-fitted (columnsOf cells) t (leaf l) e in
+one-leaf-parts question c t p cells l bytes a h =
+    let f = leaf-of cells t l h in
     let cell = leaf-cell parts c p cells a l f in
     let projects : projectSheet question (sheetIn c l) ≡ projectedLeaf question (l .head .column) (l .head .transform) (predicateIn l)
     = going _ (leaf-read parts c p cells a l f projectLimit (omega arith))
     ∙ ap (λ transform. projectedLeaf question (l .head .column) transform (predicateIn l)) (width-whole parts c p cells a l f bytes) in
     going _ a
-    ∙ going _ e
+    ∙ going _ (h .1)
+    ∙ ap (answered (partAnswer question cells)) (h .2)
     ∙ leaf-returned l (f .content-fits) question cells (recordAt p (l .place)) (cell .read) (cell .value-is) (cell .read-is)
     ∙ ap (λ r. byReturned question r (recordAt p (l .place))) (sym projects)
 
+-- with a predicate it is the predicate's holds-test, of which demand 3 speaks
+module _ (question : Question) (c t p : List ℕ) (l : Leaf) (h : OneLeafAsked question c t p l) where
+  by-predicate : filterParts question c t p ≡ holdsTest (h .predicate) (recordAt p (l .place))
+  by-predicate =
+      one-leaf-parts question c t p (h .cells) l (h .list-bytes) (h .part-cells) (h .is-leaf)
+      ∙ ap (λ r. byReturned question r (recordAt p (l .place))) (h .returned)
+
+  exactly : {X : Type 0} → Accepts (h .predicate) (recordAt p (l .place)) ↔ X → (filterParts question c t p ≡ ok true) ↔ X
+  exactly (there, back) = (λ e. there (sym by-predicate ∙ e), λ x. by-predicate ∙ back x)
+
+one-leaf-strict-is-exact : OneLeafStrictIsExact
+one-leaf-strict-is-exact c t p l h =
+    exactly Strict c t p l h (demand3 .strict-is-exact (sheetIn c l) (h .predicate) (h .row) (recordAt p (l .place)) (h .numeric) (h .row-of) (h .returned))
+
+one-leaf-inclusive-is-exact : OneLeafInclusiveIsExact
+one-leaf-inclusive-is-exact c t p l h =
+    exactly Inclusive c t p l h (demand3 .inclusive-is-exact (sheetIn c l) (h .predicate) (h .row) (recordAt p (l .place)) (h .numeric) (h .row-of) (h .returned))
+
 pub filters-lose-nothing : FiltersLoseNothing
-filters-lose-nothing = record { loses-no-row = loses-no-row; strict-is-safe = strict-is-safe; one-leaf-row = one-leaf-row; one-leaf-parts = one-leaf-parts }
+filters-lose-nothing = record {
+  loses-no-row = loses-no-row;
+  strict-is-safe = strict-is-safe;
+  one-leaf-row = one-leaf-row;
+  one-leaf-parts = one-leaf-parts;
+  one-leaf-strict-is-exact = one-leaf-strict-is-exact;
+  one-leaf-inclusive-is-exact = one-leaf-inclusive-is-exact;
+}

@@ -52,19 +52,19 @@ entry name type transform width =
     name ++ replicate (nameSize - length name) 0
     ++ leBytes 4 0 ++ leBytes 1 type ++ leBytes 1 transform ++ leBytes 2 0 ++ leBytes 4 width ++ replicate (recordSize - headSize) 0
 
-abbrev list : List ℕ
+abbrev pub list : List ℕ
 list = entry (ascii "a") 1 1 10 ++ entry (ascii "s") 9 1 2
 
 abbrev pub int : ℤ → List ℕ
 int z = signedBytes 4 z
 
-abbrev row : List ℕ
+abbrev pub row : List ℕ
 row = valueOf (int (pos 5)) ++ valueOf (ascii "abc")
 
-abbrev part : List ℕ
+abbrev pub part : List ℕ
 part = valueOf (int (pos 0)) ++ valueOf (ascii "ab")
 
-abbrev headOfA : Head
+abbrev pub headOfA : Head
 headOfA = record { column = Int; transform = Truncate 10 }
 
 abbrev headOfS : Head
@@ -73,17 +73,17 @@ headOfS = record { column = String; transform = Truncate 2 }
 abbrev cellsWith : Row (List ℕ) → Row (List ℕ) → List Cell
 cellsWith a s = record { column = record { name = ascii "a"; head = headOfA }; row = a } ∷ record { column = record { name = ascii "s"; head = headOfS }; row = s } ∷ []
 
-abbrev rowCells : List Cell
+abbrev pub rowCells : List Cell
 rowCells = cellsWith (present (int (pos 5))) (present (ascii "abc"))
 
-abbrev partCells : List Cell
+abbrev pub partCells : List Cell
 partCells = cellsWith (present (int (pos 0))) (present (ascii "ab"))
 
-row-cells : cellsOf rows list row ≡ ok rowCells
+pub row-cells : cellsOf rows list row ≡ ok rowCells
 unfolding cellsOf columns column fields head transformOf value content compareBytes utf8 codePoints isCodePoint
 row-cells = refl
 
-part-cells : cellsOf parts list part ≡ ok partCells
+pub part-cells : cellsOf parts list part ≡ ok partCells
 unfolding cellsOf columns column fields head transformOf value content compareBytes utf8 codePoints isCodePoint resultType
 part-cells = refl
 

@@ -1,8 +1,7 @@
 -- Filters over any leaves: what is so of every leaf is so of every leaf turned, and what two answers of each leaf have to do with each other the answers of the
 -- whole have. Assumes nothing.
-use Prim.Native.Nat.{_≤_}
 use mathlib.Core.Bool.{Bool, true, _&&_, _||_}
-use mathlib.Core.Logic.{⊎-elim}
+use mathlib.Core.Logic.{_⊎_, ⊎-elim}
 use mathlib.Core.Path.{_≡_, ap, _∙_}
 use Rattle.values.specs.Outcomes.{Res, ok, err, errorNumber}
 use Rattle.values.specs.laws.OutcomeLaws.{ok-inj, going, gone}
@@ -60,9 +59,9 @@ answered-only ask (one l) h = h
 answered-only ask (any f g) h = joined-only _||_ (answered ask f) (answered ask g) (answered-only ask f (h .0)) (answered-only ask g (h .1))
 answered-only ask (all f g) h = joined-only _&&_ (answered ask f) (answered ask g) (answered-only ask f (h .0)) (answered-only ask g (h .1))
 
--- ---- inclusive: the second answer is yes where the first is, and its refusals are 6 to 8
+-- ---- inclusive: the second answer is yes where the first is, and its refusals are 6 and 8
 abbrev pub Refusal : ErrorKind → Type 0
-Refusal e = (6 ≤ errorNumber e) × (errorNumber e ≤ 8)
+Refusal e = (errorNumber e ≡ 6) ⊎ (errorNumber e ≡ 8)
 
 abbrev pub Follows : Res Bool → Res Bool → Type 0
 Follows a (ok u) = a ≡ ok true → u ≡ true

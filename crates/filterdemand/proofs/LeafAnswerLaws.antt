@@ -23,6 +23,7 @@ use Rattle.projection.specs.laws.LiteralLaws.{Landed}
 use Rattle.projection.specs.Steps.{some}
 use Rattle.projection.specs.declared.question.Question.{Question}
 use Rattle.projection.specs.declared.question.Question.the-variants.{Inclusive, Strict}
+use Rattle.sheet.specs.laws.RefusalLaws.{Only}
 use Rattle.sheet.specs.Records.{value}
 use Rattle.sheet.specs.Sheets.{head}
 use Rattle.sheet.specs.Values.{readNumber, readBytes, readRow, byLayout}
@@ -39,8 +40,8 @@ use Rattle.demand.proofs.BytesKindLaws.{bytes-kind}
 use Rattle.demand.proofs.KindLaws.{KindLaws, row-part}
 use Rattle.demand.proofs.NumberKindLaws.{number-known, number-kind}
 use Rattle.filterdemand.proofs.FittedLaws.{FitsIn}
-use Rattle.filterdemand.proofs.JoinedLaws.{Follows, Leads}
-use Rattle.filterdemand.proofs.BothKindsLaws.{number-leaf, bytes-leaf}
+use Rattle.filterdemand.proofs.JoinedLaws.{Refusal, Follows, Leads}
+use Rattle.filterdemand.proofs.BothKindsLaws.{number-leaf, bytes-leaf, numbers-refusals, bytes-refusals}
 use Rattle.filterdemand.proofs.LeafKindLaws as kinds
 use Rattle.filterdemand.proofs.LeafKindLaws.{LeafLaws, part-held, by-part-returned}
 
@@ -95,8 +96,8 @@ module _ (l : Leaf) (fits : FitsIn (l .head .column) (l .content)) where
       (part-is : value (layout (typeOr column (resultType transform column))) p ≡ ok (rowAt others (l .place))) where
     -- what the record is answered, by the leaf's kind
     by-kind : (question : Question) (P : Res Bool → Type 0) (has : Known column transform)
-        → ((A B : Type 0) (k : Kind A B) (law : KindLaws column (has .to) transform k) → LeafLaws law → (x : A) → k .read (l .content) ≡ ok x
-        → P (byPart k column transform question (predicateIn l) (rowAt others (l .place))))
+        → ((A B : Type 0) (k : Kind A B) (law : KindLaws column (has .to) transform k) → LeafLaws law → ((leaf : Predicate A) → Only Refusal (k .project Inclusive leaf))
+        → (x : A) → k .read (l .content) ≡ ok x → P (byPart k column transform question (predicateIn l) (rowAt others (l .place))))
         → P (partAnswer question others l)
     unfolding partAnswer
     by-kind question P has f = go (layout column) refl
@@ -106,10 +107,12 @@ module _ (l : Leaf) (fits : FitsIn (l .head .column) (l .content)) where
             (byPart (byteStrings column transform) column transform question (predicateIn l) (rowAt others (l .place))))
         go (number n) is =
             f ℤ ℤ (numbers column transform n) (number-kind column (has .to) transform n is (has .is-known) (has .result))
-            (number-leaf column (has .to) transform n (has .result) is (has .is-known)) (signed n (leNumber (l .content))) refl
+            (number-leaf column (has .to) transform n (has .result) is (has .is-known)) (numbers-refusals column (has .to) transform n (has .result) (has .is-known))
+            (signed n (leNumber (l .content))) refl
         go (bytes n) is =
             f (List ℕ) (List ℕ) (byteStrings column transform) (bytes-kind column (has .to) transform n is (has .result))
-            (bytes-leaf column (has .to) transform n (has .result) is) (l .content) bytes-read
+            (bytes-leaf column (has .to) transform n (has .result) is) (bytes-refusals column (has .to) transform n (has .result) (has .is-known) is)
+            (l .content) bytes-read
 
     part-read : (has : Known column transform) → value (layout (has .to)) p ≡ ok (rowAt others (l .place))
     part-read has = subst (λ t. value (layout (typeOr column t)) p ≡ ok (rowAt others (l .place))) (has .result) part-is
@@ -118,15 +121,15 @@ module _ (l : Leaf) (fits : FitsIn (l .head .column) (l .content)) where
     unfolding rowAnswer
     leaf-follows d =
         let has = filed-known column transform s v p head-is d in
-        by-kind Inclusive (Follows (rowAnswer cells l)) has (λ A B k law more x read-is.
+        by-kind Inclusive (Follows (rowAnswer cells l)) has (λ A B k law more refusals x read-is.
         kinds.leaf-follows law more (predicateIn l) (test (binary (l .operator) x)) (going _ read-is) (law .rows .reads (l .content) x (fits .fit) read-is, tt) v p _ _
-        value-is (part-read has) (more .filing .filed s v p head-is d) (more .refusals (l .operator) x))
+        value-is (part-read has) (more .filing .filed s v p head-is d) (refusals (test (binary (l .operator) x))))
 
     pub leaf-leads : RowOf s p v → Leads (rowAnswer cells l) (partAnswer Strict others l)
     unfolding rowAnswer
     leaf-leads h =
         let has = value-known column transform s v p head-is h in
-        by-kind Strict (Leads (rowAnswer cells l)) has (λ A B k law more x read-is.
+        by-kind Strict (Leads (rowAnswer cells l)) has (λ A B k law more refusals x read-is.
         kinds.leaf-leads law more (predicateIn l) (test (binary (l .operator) x)) (going _ read-is) (law .rows .reads (l .content) x (fits .fit) read-is, tt) v p _ _
         value-is (part-read has) (row-part law s v p head-is h))
 

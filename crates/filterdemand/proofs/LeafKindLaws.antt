@@ -16,7 +16,6 @@ use Rattle.values.specs.declared.transform.Transform.the-variants.{Identity}
 use Rattle.partition.specs.ResultType.{resultType}
 use Rattle.partition.specs.code.PartitionAnswers.{OfPresent}
 use Rattle.expr.specs.Holds.{Tests, holds}
-use Rattle.expr.specs.Operators as operators
 use Rattle.expr.specs.Operators.{projectLimit, holdsLimit}
 use Rattle.expr.specs.Predicates.{Predicate, unary, test, binary, set, literalsIn}
 use Rattle.projection.specs.laws.LeafDemand as over-values
@@ -83,7 +82,6 @@ pub record LeafLaws {A B : Type 0} {column to : PrimitiveType} {transform : Tran
   pub filing : FilingLaws law
   pub strict-is-safe : (leaf : Predicate A) (q : Predicate B) → AllOf (law .rows .Good) (literalsIn leaf) → k .project Strict leaf ≡ ok (some q)
       → over-values.StrictIsSafe (law .rowTests) (law .partTests) (law .rows .Good) (k .partition) leaf q
-  pub refusals : (o : operators.Binary) (x : A) → Only Refusal (k .project Inclusive (test (binary o x)))
 
 module _ {A B : Type 0} {column to : PrimitiveType} {transform : Transform} {k : Kind A B} (law : KindLaws column to transform k) (more : LeafLaws law) where
   row-part-read : (raw : Row (List ℕ)) (r : Row B) → FitsRow to raw → readRow (law .partRead) raw ≡ ok r → mapRow (k .readPart) raw ≡ r

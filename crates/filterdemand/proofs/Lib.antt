@@ -1,5 +1,6 @@
 -- The proof that filters lose nothing: that it is about something, what it rests on, and the theorem; and that 7 is Unknown's alone.
 pub mod FilterWitnesses
+pub mod OneLeafWitnesses
 pub mod JoinedLaws
 pub mod FoundLaws
 pub mod FittedLaws
