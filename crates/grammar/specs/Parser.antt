@@ -1,12 +1,12 @@
--- The grammar as a parser: the filter that begins a row of symbols, and the symbols after it. `ParserLaws.grammar` says that it finds what `Grammar` derives.
--- Assumes nothing.
+-- The grammar as a parser: the filter that begins a row of symbols, and the symbols after it; and what it finds. Assumes nothing.
 use Prim.Native.Nat.{ℕ, zero, suc}
 use mathlib.Core.Bool.{Bool, true, false, cond}
 use mathlib.Core.List.{List, [], _∷_}
+use mathlib.Core.Logic.{_↔_}
 use mathlib.Core.Path.{_≡_, refl}
 use lib.ListN.{length}
 use Rattle.grammar.specs.Filters.{Filter, leaf, either, both, opposite, bracket}
-use Rattle.grammar.specs.Grammar.{Symbol, leafOf, andWord, orWord, notWord, opening, closing, unreadable}
+use Rattle.grammar.specs.Grammar.{Symbol, leafOf, andWord, orWord, notWord, opening, closing, unreadable, Derives}
 
 pub data Found (L : Type 0) : Type 0 where
   found : Filter L → List (Symbol L) → Found L
@@ -81,6 +81,10 @@ conjunction n = chain isAnd both (single n)
 
 unfoldable pub disjunction : {L : Type 0} → ℕ → Parser L
 disjunction n = chain isOr either (conjunction n)
+
+-- what it finds: of a whole row of symbols what the grammar derives, and nothing else (`ParserLaws.parser-means`)
+abbrev pub ParserMeans : Type 1
+ParserMeans = (L : Type 0) (s : List (Symbol L)) (f : Filter L) → (disjunction (suc (length s)) s ≡ found f []) ↔ Derives s f
 
 -- a or b and not c is a or (b and (not c)); 1, 2 and 3 stand for leaves
 not-and-or : disjunction {L = ℕ} 9 (leafOf 1 ∷ orWord ∷ leafOf 2 ∷ andWord ∷ notWord ∷ leafOf 3 ∷ []) ≡ found (either (leaf 1) (both (leaf 2) (opposite (leaf 3)))) []

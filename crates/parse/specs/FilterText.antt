@@ -1,6 +1,7 @@
 -- The filter in a text t, by the columns that are declared: what it may hold, and the order of 10, 9 and 10. Assumes nothing.
-use Prim.Native.Nat.{ℕ, suc}
+use Prim.Native.Nat.{ℕ, suc, _≤_}
 use mathlib.Core.List.{List, [], _∷_}
+use mathlib.Core.Logic.{_↔_}
 use mathlib.Core.Path.{_≡_, refl}
 use lib.Dec.{leb}
 use lib.ListN.{length}
@@ -17,9 +18,11 @@ use Rattle.expr.specs.Operators.{Binary, lessThan, eq, startsWith, oppositeBina
 use Rattle.sheet.specs.Sheets.{Head}
 use Rattle.columns.specs.Columns.{Column}
 use Rattle.grammar.specs.Filters.{Filter, leaf, either, both, opposite, bracket, leaves, depth}
+use Rattle.grammar.specs.Grammar.{Symbol, Derives}
 use Rattle.grammar.specs.Parser.{Found, found, nothing, single, conjunction, disjunction}
 use Rattle.leaves.specs.Fitting.{Leaf}
 use Rattle.leaves.specs.Symbols.{symbols}
+use Rattle.leaves.specs.TextIs.{TextIs}
 
 -- 02: "10 over 4,096 bytes, 32 leaves or 16 open brackets"
 abbrev pub textLimit : ℕ
@@ -45,6 +48,11 @@ filterIn cs t = do
   need (leb (leaves f) leafLimit) TooLarge
   need (leb (depth f) bracketLimit) TooLarge
   ok f
+
+-- what it is: the filter that the grammar derives from the symbols that the text is, within the limits (`FilterMeansLaws.filter-means`)
+abbrev pub FilterMeans : Type 0
+FilterMeans = (cs : List Column) (t : List ℕ) (f : Filter Leaf) → (filterIn cs t ≡ ok f)
+    ↔ ((length t ≤ textLimit) × ((ys : List (Symbol Leaf)) × TextIs cs t ys × Derives ys f) × (leaves f ≤ leafLimit) × (depth f ≤ bracketLimit))
 
 -- 02's example, of a String column and an Int column
 abbrev lotHead : Head

@@ -3,14 +3,13 @@ use Prim.Native.Nat.{ℕ, zero, suc, _+_, _≤_, _<_}
 use native.Mathlib.Omega.{arith}
 use mathlib.Core.Bool.{false}
 use mathlib.Core.List.{List, [], _∷_}
-use mathlib.Core.Logic.{_↔_}
 use mathlib.Core.Path.{_≡_, refl, _∙_}
 use lib.ListN.{length}
 use Rattle.grammar.specs.Filters.{Filter, either, both, bracket, leaves}
-use Rattle.grammar.specs.Grammar.{Symbol, leafOf, andWord, orWord, notWord, opening, closing, unreadable, Derives}
+use Rattle.grammar.specs.Grammar.{Symbol, leafOf, andWord, orWord, notWord, opening, closing, unreadable}
 use Rattle.grammar.specs.Grammar.{Single, a-leaf, a-not, in-brackets}
 use Rattle.grammar.specs.Grammar.{Conjunction, one-single, and-single, Disjunction, one-conjunction, or-conjunction}
-use Rattle.grammar.specs.Parser.{found, Parser, isAnd, isOr, chain, closed, singleWith, single, conjunction, disjunction}
+use Rattle.grammar.specs.Parser.{found, Parser, isAnd, isOr, chain, closed, singleWith, single, conjunction, disjunction, ParserMeans}
 use Rattle.grammar.specs.laws.ChainLaws.{no-filter, same, bound, only-and, only-or, begins, chain-ends}
 use Rattle.grammar.specs.laws.ChainLaws.{Reached, reached-first, reached-next, reached-last}
 
@@ -140,9 +139,9 @@ module _ {L : Type 0} where
         (reached-last isAnd both _ _ _ _ (conjunction-found e n (omega (arith, disjunction-takes d .shorter))) other) (conjunction-takes e .shorter)
 
 -- ---- a whole text
-pub grammar : {L : Type 0} (s : List (Symbol L)) (f : Filter L) → (disjunction (suc (length s)) s ≡ found f []) ↔ Derives s f
+pub parser-means : ParserMeans
 unfolding disjunction conjunction
-grammar s f = (
+parser-means L s f = (
   disjunction-sound (suc (length s)) s f [],
   λ d. reached-last isOr either _ s f [] (disjunction-found d refl (suc (length s)) (omega arith)) refl,
 )
