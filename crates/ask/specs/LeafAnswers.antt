@@ -18,7 +18,7 @@ use Rattle.meets.specs.Tested.{testedSheet}
 use Rattle.columns.specs.Cells.{Cell}
 use Rattle.leaves.specs.Fitting.{Leaf}
 
--- the value of the column at a place
+-- the value of the column at a place; past the list, where no leaf that was found has its place, it is missing
 abbrev pub rowAt : List Cell → ℕ → Row (List ℕ)
 rowAt [] k = missing
 rowAt (c ∷ cells) zero = c .row
@@ -47,6 +47,7 @@ abbrev pub accepted : {B : Type 0} → Tests B → Question → Projected (Predi
 accepted parts question none p = withoutPredicate question
 accepted parts question (some q) p = holds parts q p
 
+-- the result type is not used here: that there is one is asked, which is 5
 abbrev pub byPart : {A B : Type 0} → Kind A B → PrimitiveType → Transform → Question → Predicate (List ℕ) → Row (List ℕ) → Res Bool
 byPart k column transform question leaf p = do
   l ← eachLiteral (k .read) leaf

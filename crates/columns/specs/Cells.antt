@@ -41,7 +41,7 @@ cellsFrom side v k (c ∷ cs) = do
 abbrev pub readCell : Side → Cell → Res (Row (List ℕ))
 readCell side c = readRow (readBytes (typeOf side (c .column))) (c .row)
 
--- all declared values are looked at, named by a leaf or not: 3 of the list, 3 of a value, then 4
+-- all declared values are looked at, named by a leaf or not: 3 of the list, 3 of a value, then 4; what `read` holds is not used, the values stay bytes
 unfoldable pub cellsOf : Side → List ℕ → List ℕ → Res (List Cell)
 cellsOf side c v = do
   cs ← columns c

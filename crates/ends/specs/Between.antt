@@ -9,7 +9,7 @@ abbrev pub from : ℤ → ℕ → List ℤ
 from z zero = z ∷ []
 from z (suc n) = z ∷ from (sucℤ z) n
 
--- the numbers from low to high, where low is not above high
+-- the numbers from low to high, where low is not above high; the ends of a summary are refused with 11 before this is asked of others
 unfoldable pub between : ℤ → ℤ → List ℤ
 between low high = from low (natAbs (high -ℤ low))
 

@@ -15,7 +15,8 @@ use Rattle.summary.specs.Summaries.{nonePresent, Summary, flagAt, saysMissing, 
 use Rattle.pool.specs.Pooling.{pooled}
 use Rattle.files.specs.FileDemand.{Covers, Skips}
 
--- pooling a and b gives f
+-- pooling a and b gives f: `pooled` is no routine, but what a caller puts together from what `pool` answers, the record of the lowest end, that of the highest, the
+-- type of both and the flag
 abbrev pub Pools : List ℕ → List ℕ → List ℕ → Type 0
 Pools a b f = pooled a b ≡ ok f
 

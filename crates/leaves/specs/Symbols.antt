@@ -88,7 +88,7 @@ module _ (cs : List Column) where
   symbolsFrom others [] = []
   symbolsFrom others (b ∷ s) = firstThen others (symbol (b ∷ s))
 
-  -- the number ends the recursion: it is more than the bytes left
+  -- the number ends the recursion: it is more than the bytes left, and so does not run out (`SymbolLaws.symbols-within`)
   abbrev pub symbolsWithin : ℕ → List ℕ → List (Symbol Leaf)
   symbolsWithin zero s = []
   symbolsWithin (suc n) s = symbolsFrom (symbolsWithin n) (following isSpace s)

@@ -18,7 +18,7 @@ use Rattle.summary.specs.code.SummaryAnswers.{endsAt, summaryAt}
 use Rattle.summary.specs.declared.summary.Summary.{Summary}
 use Rattle.summary.specs.laws.SummaryLaws.{SummaryTold}
 use Rattle.pool.specs.Pooling.{secondWhere, joined, poolOf, pool}
-use Rattle.pool.specs.code.PoolAnswers.{poolResult}
+use Rattle.pool.specs.Handed.{poolResult}
 use Rattle.pool.specs.declared.pool.Pooled.{Pooled}
 use Rattle.pool.specs.declared.pool.PoolResult.{PoolResult}
 use Rattle.pool.specs.declared.pool.PoolResult.the-variants as pool-result

@@ -1,12 +1,19 @@
--- The ends of a pooled summary that are handed back, and what a caller in C is told. Assumes nothing.
+-- What pooling answers, the ends that are handed back, and what a caller in C is told. Assumes nothing.
 use Prim.Native.Nat.{ℕ, zero, suc, _+_, _*_}
 use mathlib.Core.List.{List, []}
 use Rattle.values.specs.Outcomes.{Res, ok, err, errorNumber}
 use Rattle.sheet.specs.Records.{recordSize, recordAt}
 use Rattle.pool.specs.Pooling.{of, pool}
 use Rattle.pool.specs.declared.pool.Pooled.{Pooled}
+use Rattle.pool.specs.declared.pool.PoolResult.{PoolResult}
+use Rattle.pool.specs.declared.pool.PoolResult.the-variants as pool-result
 use Rattle.pool.specs.declared.pool.Whose.{Whose}
 use Rattle.pool.specs.declared.pool.Whose.the-variants.{First, Second}
+
+-- ---- the pooled summary, or why there is none
+abbrev pub poolResult : Res Pooled → PoolResult
+poolResult (ok p) = pool-result.Ok p
+poolResult (err e) = pool-result.Err e
 
 -- ---- the end itself
 

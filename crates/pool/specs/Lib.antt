@@ -1,5 +1,4 @@
 -- The definitions of `pool`, in the order in which to read them.
 pub mod Pooling
 pub mod Handed
-pub mod code
 pub mod laws

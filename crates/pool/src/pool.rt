@@ -17,8 +17,7 @@ ghost use Rattle.sheet.specs.Records.{recordSize, recordAt};
 ghost use Rattle.summary.specs.code.SummaryAnswers.{EndsThere, endsAt, summaryAt};
 ghost use Rattle.pool.specs.Pooling as pooling;
 ghost use Rattle.pool.specs.Pooling.{secondWhere, joined, poolOf};
-ghost use Rattle.pool.specs.Handed.{further, whoseRecord, endBytes, endPlace, lowestEnd, highestEnd, lowestPlace, highestPlace, whoseNumber};
-ghost use Rattle.pool.specs.code.PoolAnswers.{poolResult};
+ghost use Rattle.pool.specs.Handed.{poolResult, further, whoseRecord, endBytes, endPlace, lowestEnd, highestEnd, lowestPlace, highestPlace, whoseNumber};
 
 // Which of the two files an end is of.
 pub enum Whose {

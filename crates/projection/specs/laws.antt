@@ -16,4 +16,3 @@ pub mod OlderLeafDemand
 pub mod OlderLeafDemandLaws
 pub mod LiteralLaws
 pub mod LandingLaws
-pub mod UnchangedLaws

@@ -14,9 +14,9 @@ use Rattle.transform.specs.Gregorian.{leap, firstDay, yearAt}
 use Rattle.transform.specs.laws.GregorianLaws.{leap-cycles, cycleDay-is}
 use Rattle.transform.specs.Calendar.{inCalendar, daysBack, yearsBack, shift, civilYear}
 use Rattle.transform.specs.laws.CalendarLaws.{calendar-spans, shift-is, day-is}
-use Rattle.transform.specs.YearGroups.{dayInYear, yearFrom, InRange}
+use Rattle.transform.specs.YearGroups.{dayInYear, yearFrom, InRange, groupsOf, grouped}
 use Rattle.transform.specs.laws.YearGroupLaws.{year-lin, counts-only}
-use Rattle.transform.specs.code.TransformAnswers.{groupsOf, grouped, leapAfter}
+use Rattle.transform.specs.code.TransformAnswers.{leapAfter}
 use Rattle.transform.specs.declared.calendar.YearGroups.{YearGroups}
 use Rattle.transform.specs.declared.calendar.Grouped.the-variants.{Into}
 use Rattle.transform.proofs.Groups.{yearPast, dayPast, begins, lies}

@@ -14,9 +14,9 @@ use Rattle.transform.specs.Gregorian.{yearLength, monthLength, yearAt}
 use Rattle.transform.specs.laws.GregorianLaws.{yearLength-is, year-lies, cycleDay-is, monthIn-is, monthIn-small}
 use Rattle.transform.specs.Calendar.{inCalendar, daysBack, shift, civilYear, civilMonth, yearOf, monthOf}
 use Rattle.transform.specs.laws.CalendarLaws.{yearOf-range, monthOf-range}
-use Rattle.transform.specs.YearGroups.{dayInYear, InRange}
+use Rattle.transform.specs.YearGroups.{dayInYear, InRange, groupsOf, grouped}
 use Rattle.transform.specs.laws.YearGroupLaws.{counts-in-range, counts-make-year}
-use Rattle.transform.specs.code.TransformAnswers.{groupsOf, grouped, yearAfter, leapAfter, dated, counted}
+use Rattle.transform.specs.code.TransformAnswers.{yearAfter, leapAfter, dated, counted}
 use Rattle.transform.specs.laws.TransformAnswerLaws.{dated-on, dated-outside, grouped-into}
 use Rattle.transform.specs.declared.calendar.YearGroups.{YearGroups}
 use Rattle.transform.specs.declared.calendar.Grouped.the-variants.{Into}

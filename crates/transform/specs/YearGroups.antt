@@ -1,13 +1,16 @@
 -- 02, #103: the year by "counting off groups of 400, 100, 4 and 1 years from 1 January of year 1": how many of each lie before the year of day d.
 -- Assumes nothing.
 use Prim.Native.Nat.{ℕ, _+_, _*_, _/_, _%_, _≤_}
-use mathlib.Core.Bool.{true}
+use mathlib.Core.Bool.{true, cond}
 use mathlib.Core.Path.{_≡_, refl}
 use lib.IntN.{ℤ, pos, negsuc, negℤ, _+ℤ_, _-ℤ_, _*ℤ_}
 use Rattle.transform.specs.Floor.{floorDiv, floorMod}
 use Rattle.transform.specs.Count.{before, countOff}
 use Rattle.transform.specs.Gregorian.{leap, yearLength, cycle, cycleYear, cycleDay, yearAt}
 use Rattle.transform.specs.Calendar.{firstCalendarDay, lastCalendarDay, inCalendar, daysBack, shift, civilYear}
+use Rattle.transform.specs.declared.calendar.YearGroups.{YearGroups}
+use Rattle.transform.specs.declared.calendar.Grouped.{Grouped}
+use Rattle.transform.specs.declared.calendar.Grouped.the-variants as grouped-as
 
 -- the years from 1 January of year 1 to 1 January of d's year: 0 in year 1, -1 in year 0
 unfoldable pub yearsBefore : ℤ → ℤ
@@ -43,6 +46,15 @@ yearFrom n400 n100 n4 n1 = pos 1 +ℤ n400 *ℤ pos 400 +ℤ pos (n100 * 100 + n
 
 abbrev pub CountsMakeYear : Type 0
 CountsMakeYear = (d : ℤ) → inCalendar d ≡ true → yearFrom (count400 d) (count100 d) (count4 d) (count1 d) ≡ civilYear d
+
+-- no other four numbers are in range and make the year (`YearGroupLaws.counts-only`)
+
+-- what is told of a day: the four counts and its place in its year, or that it lies outside the calendar
+abbrev pub groupsOf : ℤ → YearGroups
+groupsOf d = record { n400 = count400 d; n100 = count100 d; n4 = count4 d; n1 = count1 d }
+
+abbrev pub grouped : ℤ → Grouped
+grouped d = cond (inCalendar d) (grouped-as.Into (groupsOf d) (dayInYear d)) grouped-as.Outside
 
 -- ---- worked examples
 

@@ -7,8 +7,8 @@ ghost use Prim.Native.Nat.{_*_, _/_, _<_, min};
 ghost use Rattle.transform.specs.Count.{countOff};
 ghost use Rattle.transform.specs.Gregorian.{monthLength};
 ghost use Rattle.transform.specs.Calendar.{yearOf, monthOf};
-ghost use Rattle.transform.specs.YearGroups.{InRange};
-ghost use Rattle.transform.specs.code.TransformAnswers.{dated, counted, grouped, yearAfter, leapAfter};
+ghost use Rattle.transform.specs.YearGroups.{InRange, grouped};
+ghost use Rattle.transform.specs.code.TransformAnswers.{dated, counted, yearAfter, leapAfter};
 
 // A count of days from 1970-01-01.
 pub struct Days(pub i32);

@@ -4,7 +4,7 @@ use mathlib.Core.Path.{_≡_, refl, ap, _∙_}
 use mir.Syntax.{w32}
 use mir.Val.{SFits}
 use Rattle.values.specs.laws.SignedLaws.{back}
-use Rattle.transform.specs.code.TransformAnswers.{grouped}
+use Rattle.transform.specs.YearGroups.{grouped}
 use Rattle.transform.specs.laws.TransformAnswerLaws.{grouped-into, grouped-outside}
 use Rattle.calendar_c.proofs.calendar_year_groups.Statement.{statement}
 use Rattle.calendar_c.proofs.calendar_year_groups.Tie as tie

@@ -15,9 +15,8 @@ use Rattle.summary.specs.EndValues.{compareIn, ordered}
 use Rattle.summary.specs.Summaries.{Ends, nonePresent, _to_, Summary, typeAt}
 use Rattle.summary.specs.code.SummaryAnswers.{endsEncoded}
 use Rattle.summary.specs.laws.EndLaws.{ends-read}
-use Rattle.pool.specs.Handed.{lowestEnd, highestEnd}
+use Rattle.pool.specs.Handed.{poolResult, lowestEnd, highestEnd}
 use Rattle.pool.specs.Pooling.{of, secondWhere, joined, poolOf, pool, pooled}
-use Rattle.pool.specs.code.PoolAnswers.{poolResult}
 use Rattle.pool.specs.declared.pool.Pooled.{Pooled}
 use Rattle.pool.specs.declared.pool.PoolResult.{PoolResult}
 use Rattle.pool.specs.declared.pool.PoolResult.the-variants as pool-result

@@ -7,7 +7,7 @@ use Rattle.values.specs.Types.{inType}
 use Rattle.values.specs.declared.datatypes.PrimitiveType.the-variants.{Long}
 use Rattle.transform.specs.Gregorian.{leap}
 use Rattle.transform.specs.Calendar.{inCalendar, civilYear, civilMonth}
-use Rattle.transform.specs.YearGroups.{count400, count100, count4, count1, dayInYear, yearFrom}
+use Rattle.transform.specs.YearGroups.{yearFrom}
 use Rattle.transform.specs.Truncate.{truncated}
 use Rattle.transform.specs.declared.calendar.Civil.{Civil}
 use Rattle.transform.specs.declared.calendar.Dated.{Dated}
@@ -15,8 +15,6 @@ use Rattle.transform.specs.declared.calendar.Dated.the-variants as dated
 use Rattle.transform.specs.declared.calendar.Counted.{Counted}
 use Rattle.transform.specs.declared.calendar.Counted.the-variants as counted-as
 use Rattle.transform.specs.declared.calendar.YearGroups.{YearGroups}
-use Rattle.transform.specs.declared.calendar.Grouped.{Grouped}
-use Rattle.transform.specs.declared.calendar.Grouped.the-variants as grouped-as
 use Rattle.transform.specs.declared.truncate.Truncated.{Truncated}
 use Rattle.transform.specs.declared.truncate.Truncated.the-variants as truncated-as
 
@@ -30,12 +28,6 @@ dated d = cond (inCalendar d) (dated-as.On (civilOf d)) dated-as.Outside
 
 abbrev pub counted : (ℤ → ℤ) → ℤ → Counted
 counted count d = cond (inCalendar d) (counted-as.Of (count d)) counted-as.Outside
-
-abbrev pub groupsOf : ℤ → YearGroups
-groupsOf d = record { n400 = count400 d; n100 = count100 d; n4 = count4 d; n1 = count1 d }
-
-abbrev pub grouped : ℤ → Grouped
-grouped d = cond (inCalendar d) (grouped-as.Into (groupsOf d) (dayInYear d)) grouped-as.Outside
 
 abbrev pub yearAfter : YearGroups → ℤ
 yearAfter g = yearFrom (g .n400) (g .n100) (g .n4) (g .n1)

@@ -5,8 +5,8 @@ use mathlib.Core.Path.{_≡_, refl}
 use mathlib.Core.Bool.{Bool, true, false, cond, true≢false}
 use lib.IntN.{ℤ}
 use Rattle.transform.specs.Calendar.{inCalendar}
-use Rattle.transform.specs.YearGroups.{dayInYear}
-use Rattle.transform.specs.code.TransformAnswers.{civilOf, dated, groupsOf, grouped}
+use Rattle.transform.specs.YearGroups.{dayInYear, groupsOf, grouped}
+use Rattle.transform.specs.code.TransformAnswers.{civilOf, dated}
 use Rattle.transform.specs.declared.calendar.Civil.{Civil}
 use Rattle.transform.specs.declared.calendar.Dated.the-variants as dated-as
 use Rattle.transform.specs.declared.calendar.YearGroups.{YearGroups}
