@@ -4,7 +4,7 @@ use mathlib.Core.Path.{_≡_, sym, subst, _∙_}
 use denote.Ref.{now}
 use borrow.Author.Needs.{needs}
 use borrow.Author.Tests.{eq-eqb, ne-eqb}
-use Rattle.values.specs.Types.{layout, sameType}
+use Rattle.values.specs.Types.{layout, sameType, typeNumber}
 use Rattle.summary.specs.code.SummaryAnswers.{EndsThere}
 use Rattle.values.specs.laws.TypesLaws.{same-type}
 use Rattle.verdict.proofs.JudgeArms.{literalsEncoded, endsEncoded, encoded-no, encoded-yes, not-encoded, types-differ, bytes-answered, numbers-answered}
@@ -37,8 +37,10 @@ returns-2 : tie.Need-returns-2
 returns-2 c =
     let right = c .before .before .before in
     let a = start right .args in
+    let one = c .before .before .number .ensures in
+    let other = c .before .number2 .ensures in
     types-differ (a .x) (now (a .s)) (now (a .records)) (a .file) (now (a .f)) (start right .pre .0) (start right .pre .1 .0) (encoded right)
-    (ne-eqb _ _ (λ e. c .if2 .taken (c .before .before .number .ensures ∙ e ∙ sym (c .before .number2 .ensures))))
+    (ne-eqb (typeNumber (a .x .head .column)) (typeNumber (a .file .column)) (λ e. c .if2 .taken (cc)))
 
 -- where the types are one
 module _ (c : tie.Else2) where
@@ -46,7 +48,12 @@ module _ (c : tie.Else2) where
   right = c .before .before .before
 
   same : let a = start right .args in sameType (a .x .head .column) (a .file .column) ≡ true
-  same = eq-eqb _ _ (sym (c .before .before .number .ensures) ∙ c .if2 .left ∙ c .before .number2 .ensures)
+  same =
+      let a = start right .args in
+      let one = c .before .before .number .ensures in
+      let other = c .before .number2 .ensures in
+      let alike = c .if2 .left in
+      eq-eqb (typeNumber (a .x .head .column)) (typeNumber (a .file .column)) (cc)
 
   there : let a = start right .args in a .file .present ≡ true → EndsThere (layout (a .x .head .column)) (now (a .f))
   there h =
