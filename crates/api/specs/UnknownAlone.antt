@@ -12,8 +12,8 @@ use Rattle.api.specs.Routines.{projectSheet, transformValue}
 abbrev pub unknown : ℕ
 unknown = 7
 
--- the holds-test gives 0, 1, 3 and 4 only (`HoldsTestLaws.answers`), the test of a summary 0, 2, 3, 4 and 11 (`files/TestSummaryLaws`); `filter/FilterDemand`
--- has filters
+-- the holds-test gives 0, 1, 3 and 4 only (`HoldsTestLaws.answers`), the test of a summary 0, 2, 3, 4 and 11 (`files/TestSummaryLaws`), pooling 0, 3, 4, 11 and 12
+-- (`pool/PoolAnswerLaws`); `filter/FilterDemand` has filters
 pub record SevenIsUnknown : Type 0 where
   pub projections : (question : Question) (s : List ℕ) → projectSheet question s ≡ err FeatureUnsupported → transformIn s ≡ unknown
   pub values : (type transform width : ℕ) (v : List ℕ) → transformValue type transform width v ≡ err FeatureUnsupported → transform ≡ unknown

@@ -30,7 +30,8 @@ withDays = Date ∷ Timestamp ∷ Timestamptz ∷ TimestampNs ∷ TimestamptzNs 
 abbrev pub withHours : List PrimitiveType
 withHours = Timestamp ∷ Timestamptz ∷ TimestampNs ∷ TimestamptzNs ∷ []
 
--- Identity, Void and Unknown take every type. Unknown's String is the Rust's, and no answer shows it: its 7 comes next
+-- Identity, Void and Unknown take every type. Unknown's String is the Rust's. Of a leaf and of a value no answer shows it, since its 7 comes next; in a filter a
+-- column's partition value under Unknown is read as a String: ff ff ff ff under an Int is 4
 unfoldable pub resultType : Transform → PrimitiveType → Res PrimitiveType
 resultType Identity ty = ok ty
 resultType (Truncate width) ty = forTypes truncatable ty ty
