@@ -2,3 +2,4 @@
 pub mod DecimalLaws
 pub mod TokenLaws
 pub mod ClosingLaws
+pub mod SpelledLaws
