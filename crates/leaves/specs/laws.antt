@@ -1,2 +1,3 @@
 -- The laws about the definitions of `leaves`.
 pub mod SymbolLaws
+pub mod TextLaws

@@ -30,7 +30,7 @@ use Rattle.leaves.specs.code.SymbolAnswers.{leafOn, withOperator}
 abbrev Leaves : ℕ → Taken → Type 0
 Leaves n (taken t rest) = length rest ≤ n
 
-abbrev ReadLeaves : ℕ → Read → Type 0
+abbrev pub ReadLeaves : ℕ → Read → Type 0
 ReadLeaves n (read y rest) = length rest ≤ n
 
 picked : (n : ℕ) (t : Bool) (x y : Taken) → (t ≡ true → Leaves n x) → Leaves n y → Leaves n (cond t x y)
@@ -122,7 +122,7 @@ module _ (cs : List Column) where
   of-token-leaves n tokens.closing s h = h
   of-token-leaves n tokens.unreadable s h = unread-leaves n
 
-  symbol-leaves : (s : List ℕ) → ReadLeaves (length s - 1) (symbol cs s)
+  pub symbol-leaves : (s : List ℕ) → ReadLeaves (length s - 1) (symbol cs s)
   symbol-leaves s = on-token (length s - 1) s _ (omega arith) (of-token-leaves (length s - 1))
 
   -- ---- the number that ends the recursion does not matter where it is enough

@@ -49,7 +49,7 @@ module _ (passes : ℕ → Bool) where
   run-from P b s e h = rw e (run (λ u w. P (b ∷ u) (b ∷ w)) (λ w rest all other. h w rest (both-and e all) other) s)
 
   -- there is no other such run
-  no-more : (rest : List ℕ) → beginsWith passes rest ≡ false → (leading passes rest ≡ []) × (following passes rest ≡ rest)
+  pub no-more : (rest : List ℕ) → beginsWith passes rest ≡ false → (leading passes rest ≡ []) × (following passes rest ≡ rest)
   no-more [] other = (refl, refl)
   no-more (b ∷ s) other = (rw other, rw other)
 
