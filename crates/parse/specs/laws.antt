@@ -4,3 +4,4 @@ pub mod SingleReadLaws
 pub mod BracketReadLaws
 pub mod AskingLaws
 pub mod SymbolKindLaws
+pub mod FilterMeansLaws
