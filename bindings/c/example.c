@@ -159,6 +159,10 @@ int main(void)
 {
     uint8_t sheet[SAMPLE_SIZE];
     struct predicate inclusive, strict;
+    if (weighpick_version() != WEIGHPICK_VERSION_NUMBER) {
+        fprintf(stderr, "the library is not of version %s\n", WEIGHPICK_VERSION);
+        return 1;
+    }
     put_sheet(sheet, 300);
     int good = ask("inclusive", weighpick_project, sheet, &inclusive, "inclusive 0 202 290");
     good &= ask("strict", weighpick_strict_project, sheet, &strict, "strict 0 201 300");

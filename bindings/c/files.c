@@ -150,6 +150,10 @@ int main(void)
     uint8_t sheet[SAMPLE_SIZE];
     struct predicate inclusive, strict;
     int good = 1;
+    if (weighpick_version() != WEIGHPICK_VERSION_NUMBER) {
+        fprintf(stderr, "the library is not of version %s\n", WEIGHPICK_VERSION);
+        return 1;
+    }
     put_sheet(sheet, 300);
     weighpick_project(sheet, sizeof sheet, inclusive.sheet, sizeof inclusive.sheet, &inclusive.count);
     weighpick_strict_project(sheet, sizeof sheet, strict.sheet, sizeof strict.sheet, &strict.count);

@@ -19,7 +19,12 @@
 #define WEIGHPICK_H
 
 /* The version; bindings/rust/Cargo.toml has the same, and CHANGELOG.md says what it has. */
-#define WEIGHPICK_VERSION "0.8.0"
+#define WEIGHPICK_VERSION "0.9.0"
+#define WEIGHPICK_VERSION_MAJOR 0
+#define WEIGHPICK_VERSION_MINOR 9
+#define WEIGHPICK_VERSION_PATCH 0
+/* The version as one number: of a later one it is greater. */
+#define WEIGHPICK_VERSION_NUMBER (1000000 * WEIGHPICK_VERSION_MAJOR + 1000 * WEIGHPICK_VERSION_MINOR + WEIGHPICK_VERSION_PATCH)
 
 #include <stddef.h>
 #include <stdint.h>
@@ -28,7 +33,10 @@
 extern "C" {
 #endif
 
-/* What a routine returns. After every number but WEIGHPICK_RESULT nothing was written and the count is 0. */
+/*
+ * What a routine returns, but for weighpick_version. After every number but WEIGHPICK_RESULT nothing was written and the count
+ * is 0.
+ */
 enum weighpick_answer {
     WEIGHPICK_RESULT = 0,              /* result written, or the three numbers set; for the holds-test and for a filter: yes */
     WEIGHPICK_NONE = 1,                /* no predicate; for the holds-test and for a filter: no */
@@ -145,6 +153,12 @@ enum weighpick_transform_number {
     WEIGHPICK_VOID = 6,     /* always missing */
     WEIGHPICK_UNKNOWN = 7   /* not known here */
 };
+
+/*
+ * The version of the library, to be held to WEIGHPICK_VERSION_NUMBER, that of this header. A stale library links silently, so a
+ * caller asks once, at its start.
+ */
+uint32_t weighpick_version(void);
 
 /* Inclusive projection: a predicate that accepts the partition value of every row that meets the sheet's leaf. */
 uint32_t weighpick_project(const uint8_t *sheet, size_t sheet_len, uint8_t *out, size_t out_len, uint64_t *count);

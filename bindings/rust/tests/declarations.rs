@@ -66,10 +66,11 @@ fn parted<'a>(text: &'a str, sign: &str) -> (&'a str, &'a str) {
     (before.trim(), behind.trim())
 }
 
-/// Parameters with commas between them; there may be one behind the last.
+/// Parameters with commas between them, or none; there may be one behind the last.
 fn listed(parameters: &str) -> impl Iterator<Item = &str> {
-    let parameters = parameters.trim().trim_end_matches(',').split(',');
-    parameters.map(str::trim)
+    let parameters = parameters.trim_end_matches(',');
+    let parameters = (!parameters.is_empty()).then(|| parameters.split(','));
+    parameters.into_iter().flatten().map(str::trim)
 }
 
 /// The prototypes of a header: what has a bracket, where comments, the lines of the preprocessor and enums have none.
@@ -80,12 +81,15 @@ fn in_header(header: &str) -> Vec<Function> {
     prototypes.map(|part| prototype(part.trim())).collect()
 }
 
-/// A prototype of C, as `uint32_t f(const uint8_t *a, size_t a_len)`.
+/// A prototype of C, as `uint32_t f(const uint8_t *a, size_t a_len)` or `uint32_t f(void)`.
 fn prototype(text: &str) -> Function {
     let (head, rest) = parted(text, "(");
     let (result, name) = c_variable(head);
     let (parameters, rest) = parted(rest, ")");
     assert_eq!(rest, "", "behind {name}");
+    // Empty brackets would say nothing of the parameters.
+    assert_ne!(parameters, "", "{name} without `void`");
+    let parameters = if parameters == "void" { "" } else { parameters };
     let parameters = listed(parameters).map(|text| {
         let (of, name) = c_variable(text);
         (name, of)
@@ -178,13 +182,15 @@ fn header_and_source() {
     same(&in_header(HEADER), &in_source(SOURCE));
 }
 
-/// What is read, word for word: the first two names, and a function with a parameter of every type.
+/// What is read, word for word: the first two names, a function without parameters, and one with a parameter of every type.
 #[test]
 fn read_as_it_stands() {
     let header = in_header(HEADER);
     let names: Vec<&str> = header.iter().map(|f| f.name.as_str()).collect();
-    assert!(names.starts_with(&["weighpick_project", "weighpick_strict_project"]));
+    assert!(names.starts_with(&["weighpick_version", "weighpick_project"]));
     assert!(names.iter().all(|name| name.starts_with("weighpick_")));
+    assert_eq!(header[0].parameters, []);
+    assert_eq!(header[0].result, "u32");
     let transform = header.iter().find(|f| f.name == "weighpick_transform");
     let transform = transform.expect("the transform of one value");
     let parameters = [
@@ -231,8 +237,8 @@ fn in_the_table() {
 type Slip = (&'static str, &'static str);
 
 /// Each slip by itself makes another list of functions: two parameters exchanged; one left out, of another type, written to in place
-/// of read, or of another name; another result; another function.
-fn slips_show(text: &str, read: fn(&str) -> Vec<Function>, slips: [Slip; 7]) {
+/// of read, or of another name; one where there is none; another result; another function.
+fn slips_show(text: &str, read: fn(&str) -> Vec<Function>, slips: [Slip; 8]) {
     for (there, instead) in slips {
         let slipped = text.replacen(there, instead, 1);
         assert_ne!(slipped, text, "`{there}` is not there");
@@ -251,10 +257,17 @@ fn slips_in_the_header() {
         ("uint32_t width", "uint64_t width"),
         ("const uint8_t *value", "uint8_t *value"),
         ("uint64_t *lowest", "uint64_t *least"),
+        ("weighpick_version(void)", "weighpick_version(uint32_t of)"),
         ("uint32_t weighpick_holds", "uint64_t weighpick_holds"),
         ("weighpick_filter_row(", "weighpick_filter_project("),
     ];
     slips_show(HEADER, in_header, slips);
+}
+
+#[test]
+#[should_panic(expected = "weighpick_version without `void`")]
+fn empty_brackets_in_the_header() {
+    in_header(&HEADER.replacen("weighpick_version(void)", "weighpick_version()", 1));
 }
 
 #[test]
@@ -268,6 +281,7 @@ fn slips_in_the_block() {
         ("width: u32", "width: u64"),
         ("value: *const u8", "value: *mut u8"),
         ("lowest: *mut u64", "least: *mut u64"),
+        ("weighpick_version()", "weighpick_version(of: u32)"),
         ("-> u32", "-> u64"),
         ("weighpick_filter_row(", "weighpick_filter_project("),
     ];
@@ -285,6 +299,7 @@ fn slips_in_the_source() {
         ("width: u32", "width: u64"),
         ("value: &[u8]", "value: &mut [u8]"),
         ("lowest: &mut u64", "least: &mut u64"),
+        ("weighpick_version()", "weighpick_version(of: u32)"),
         ("-> u32\n    ensures { ", "-> u64\n    ensures { "),
         ("weighpick_filter_row(", "weighpick_filter_project("),
     ];

@@ -51,13 +51,22 @@ fn c_name(variant: impl std::fmt::Debug) -> String {
     name
 }
 
+/// The version as text and in its three parts is this crate's. The one number that they make is held to its text, since a part that
+/// is 0 tells nothing of its factor.
 #[test]
 fn version() {
-    let line = format!(
-        "#define WEIGHPICK_VERSION \"{}\"",
-        env!("CARGO_PKG_VERSION")
-    );
-    assert!(HEADER.lines().any(|l| l == line), "{line}");
+    let version = env!("CARGO_PKG_VERSION");
+    let part = |name: &str| in_header(name).expect(name);
+    let [major, minor, patch] = ["VERSION_MAJOR", "VERSION_MINOR", "VERSION_PATCH"].map(part);
+    assert_eq!(format!("{major}.{minor}.{patch}"), version);
+    let lines = [
+        format!("VERSION \"{version}\""),
+        "VERSION_NUMBER (1000000 * WEIGHPICK_VERSION_MAJOR + 1000 * WEIGHPICK_VERSION_MINOR + WEIGHPICK_VERSION_PATCH)".to_string(),
+    ];
+    for line in lines {
+        let line = format!("#define WEIGHPICK_{line}");
+        assert!(HEADER.lines().any(|l| l == line), "{line}");
+    }
 }
 
 #[test]
