@@ -16,19 +16,19 @@ static const char FILTER[] = "lot startswith 'ab' and not (grams < 300 or grams 
 
 /* One value record a column, side by side: of a weighing, or of the file that it lies in. */
 struct values {
-    uint8_t lot[WEIGHPICK_RECORD];
-    uint8_t grams[WEIGHPICK_RECORD];
+    uint8_t lot[WEIGHPICK_RECORD_SIZE];
+    uint8_t grams[WEIGHPICK_RECORD_SIZE];
 };
 
 /* One of the three routines of filters. */
 typedef uint32_t filter_routine(const uint8_t *, size_t, const uint8_t *, size_t, const uint8_t *, size_t);
 
-/* Writes an entry of a column list; the name has at most WEIGHPICK_NAME letters. */
+/* Writes an entry of a column list; the name has at most WEIGHPICK_NAME_SIZE letters. */
 static void put_column(uint8_t *entry, const char *name, uint8_t column_type, uint32_t width)
 {
-    memset(entry, 0, WEIGHPICK_NAME);
+    memset(entry, 0, WEIGHPICK_NAME_SIZE);
     memcpy(entry, name, strlen(name));
-    put_head(entry + WEIGHPICK_NAME, column_type, width);
+    put_head(entry + WEIGHPICK_NAME_SIZE, column_type, width);
 }
 
 /* Asks one question and prints its line as program `weighpick` does. */
@@ -38,7 +38,7 @@ static int ask(const char *question, projection *project, const uint8_t *sheet, 
     uint32_t answer = project(sheet, SAMPLE_SIZE, out->sheet, sizeof out->sheet, &out->count);
     if (answer == WEIGHPICK_RESULT && out->count == SAMPLE_SIZE) {
         snprintf(line, sizeof line, "%s %u %u %ld", question, (unsigned)answer,
-                 (unsigned)get_number(out->sheet + WEIGHPICK_OPERATOR_AT, 2), (long)get_int(out->sheet + WEIGHPICK_RECORD));
+                 (unsigned)get_number(out->sheet + WEIGHPICK_OPERATOR_AT, 2), (long)get_int(out->sheet + WEIGHPICK_RECORD_SIZE));
     } else {
         snprintf(line, sizeof line, "%s %u", question, (unsigned)answer);
     }
@@ -48,7 +48,7 @@ static int ask(const char *question, projection *project, const uint8_t *sheet, 
 /* Tests a partition value with a predicate. */
 static uint32_t test(const struct predicate *predicate, const uint8_t *partition)
 {
-    return weighpick_holds(predicate->sheet, (size_t)predicate->count, partition, WEIGHPICK_RECORD);
+    return weighpick_holds(predicate->sheet, (size_t)predicate->count, partition, WEIGHPICK_RECORD_SIZE);
 }
 
 /*
@@ -57,24 +57,24 @@ static uint32_t test(const struct predicate *predicate, const uint8_t *partition
  */
 static const char *decide(uint32_t inclusive, uint32_t strict)
 {
-    if (inclusive == WEIGHPICK_NONE) {
+    if (inclusive == WEIGHPICK_NO) {
         return "pass over";
     }
-    return strict == WEIGHPICK_RESULT ? "read whole" : "read and filter";
+    return strict == WEIGHPICK_YES ? "read whole" : "read and filter";
 }
 
 /* Finds the partition value of a value under Truncate. */
 static uint32_t partition_of(uint8_t column_type, uint32_t width, const uint8_t *value, uint8_t *partition)
 {
     uint64_t count;
-    return weighpick_transform(column_type, WEIGHPICK_TRUNCATE, width, value, WEIGHPICK_RECORD, partition,
+    return weighpick_transform(column_type, WEIGHPICK_TRUNCATE, width, value, WEIGHPICK_RECORD_SIZE, partition,
                                WEIGHPICK_VALUE_BUFFER, &count);
 }
 
 /* Finds a weighing's partition value and prints what is done with the file that it lies in. */
 static int pick(int32_t grams, const struct predicate *inclusive, const struct predicate *strict, const char *expected)
 {
-    uint8_t value[WEIGHPICK_RECORD];
+    uint8_t value[WEIGHPICK_RECORD_SIZE];
     uint8_t partition[WEIGHPICK_VALUE_BUFFER];
     char line[LINE_SIZE];
     put_int(value, grams);
@@ -102,7 +102,7 @@ static void put_since_1970(uint8_t *sheet)
 static int pick_year(int32_t year, const struct predicate *inclusive, const struct predicate *strict,
                      const struct predicate *older, const char *expected)
 {
-    uint8_t partition[WEIGHPICK_RECORD];
+    uint8_t partition[WEIGHPICK_RECORD_SIZE];
     char line[LINE_SIZE];
     put_int(partition, year);
     uint32_t accepted = test(inclusive, partition);
@@ -129,9 +129,9 @@ static int pick_years(void)
 /* Asks the filter of one value a column. */
 static uint32_t ask_filter(filter_routine *routine, const struct values *values)
 {
-    uint8_t columns[COLUMNS * WEIGHPICK_COLUMN];
+    uint8_t columns[COLUMNS * WEIGHPICK_COLUMN_SIZE];
     put_column(columns, "lot", WEIGHPICK_STRING, LOT_WIDTH);
-    put_column(columns + WEIGHPICK_COLUMN, "grams", WEIGHPICK_INT, WIDTH);
+    put_column(columns + WEIGHPICK_COLUMN_SIZE, "grams", WEIGHPICK_INT, WIDTH);
     return routine(columns, sizeof columns, (const uint8_t *)FILTER, strlen(FILTER), (const uint8_t *)values, sizeof *values);
 }
 

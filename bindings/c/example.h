@@ -13,7 +13,7 @@
 enum {
     WIDTH = 10, /* of the steps of grams that split the table */
     INT_LENGTH = 4,
-    SAMPLE_SIZE = 2 * WEIGHPICK_RECORD, /* a head and one literal */
+    SAMPLE_SIZE = 2 * WEIGHPICK_RECORD_SIZE, /* a head and one literal */
     LINE_SIZE = 80                      /* every line here is shorter */
 };
 
@@ -47,15 +47,15 @@ static inline uint32_t get_number(const uint8_t *at, size_t size)
 /* Writes an Int as a literal or value record at the end of a chain. */
 static inline void put_int(uint8_t *record, int32_t value)
 {
-    memset(record, 0, WEIGHPICK_RECORD);
+    memset(record, 0, WEIGHPICK_RECORD_SIZE);
     put_number(record + WEIGHPICK_LENGTH_AT, 2, INT_LENGTH);
     put_number(record + WEIGHPICK_CONTENT_AT, INT_LENGTH, (uint32_t)value);
 }
 
-/* Writes a String of at most WEIGHPICK_CONTENT bytes as a literal or value record at the end of a chain. */
+/* Writes a String of at most WEIGHPICK_CONTENT_MAX bytes as a literal or value record at the end of a chain. */
 static inline void put_string(uint8_t *record, const char *text)
 {
-    memset(record, 0, WEIGHPICK_RECORD);
+    memset(record, 0, WEIGHPICK_RECORD_SIZE);
     put_number(record + WEIGHPICK_LENGTH_AT, 2, (uint32_t)strlen(text));
     memcpy(record + WEIGHPICK_CONTENT_AT, text, strlen(text));
 }
@@ -63,7 +63,7 @@ static inline void put_string(uint8_t *record, const char *text)
 /* Writes a missing value. */
 static inline void put_missing(uint8_t *record)
 {
-    memset(record, 0, WEIGHPICK_RECORD);
+    memset(record, 0, WEIGHPICK_RECORD_SIZE);
     put_number(record + WEIGHPICK_LENGTH_AT, 2, WEIGHPICK_MISSING);
 }
 
@@ -77,7 +77,7 @@ static inline int32_t get_int(const uint8_t *record)
 /* Writes the head of a column under Truncate, with next and operator 0. */
 static inline void put_head(uint8_t *head, uint8_t column_type, uint32_t width)
 {
-    memset(head, 0, WEIGHPICK_RECORD);
+    memset(head, 0, WEIGHPICK_RECORD_SIZE);
     head[WEIGHPICK_TYPE_AT] = column_type;
     head[WEIGHPICK_TRANSFORM_AT] = WEIGHPICK_TRUNCATE;
     put_number(head + WEIGHPICK_WIDTH_AT, 4, width);
@@ -89,7 +89,7 @@ static inline void put_sheet(uint8_t *sheet, int32_t limit)
     put_head(sheet, WEIGHPICK_INT, WIDTH);
     put_number(sheet + WEIGHPICK_NEXT_AT, 2, 1);
     put_number(sheet + WEIGHPICK_OPERATOR_AT, 2, WEIGHPICK_LESS_THAN);
-    put_int(sheet + WEIGHPICK_RECORD, limit);
+    put_int(sheet + WEIGHPICK_RECORD_SIZE, limit);
 }
 
 /* Prints a line and says whether it is the expected one. */

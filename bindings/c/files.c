@@ -32,15 +32,15 @@ static void put_summary(uint8_t *summary, const struct file *file)
 static uint32_t add_file(uint8_t *group, const uint8_t *file)
 {
     uint64_t lowest, highest, flag;
-    uint32_t answer = weighpick_pool(group, WEIGHPICK_SUMMARY, file, WEIGHPICK_SUMMARY, &lowest, &highest, &flag);
+    uint32_t answer = weighpick_pool(group, WEIGHPICK_SUMMARY_SIZE, file, WEIGHPICK_SUMMARY_SIZE, &lowest, &highest, &flag);
     if (answer != WEIGHPICK_RESULT) {
         return answer;
     }
     if (lowest == WEIGHPICK_SECOND) {
-        memcpy(group + WEIGHPICK_LOWEST_AT, file + WEIGHPICK_LOWEST_AT, WEIGHPICK_RECORD);
+        memcpy(group + WEIGHPICK_LOWEST_AT, file + WEIGHPICK_LOWEST_AT, WEIGHPICK_RECORD_SIZE);
     }
     if (highest == WEIGHPICK_SECOND) {
-        memcpy(group + WEIGHPICK_HIGHEST_AT, file + WEIGHPICK_HIGHEST_AT, WEIGHPICK_RECORD);
+        memcpy(group + WEIGHPICK_HIGHEST_AT, file + WEIGHPICK_HIGHEST_AT, WEIGHPICK_RECORD_SIZE);
     }
     group[WEIGHPICK_FLAG_AT] = (uint8_t)flag;
     return answer;
@@ -54,7 +54,7 @@ static uint8_t verdict(const struct predicate *predicate, const uint8_t *summary
 {
     uint8_t out = WEIGHPICK_READ;
     uint64_t count;
-    weighpick_test_summary(predicate->sheet, (size_t)predicate->count, summary, WEIGHPICK_SUMMARY, &out, sizeof out, &count);
+    weighpick_test_summary(predicate->sheet, (size_t)predicate->count, summary, WEIGHPICK_SUMMARY_SIZE, &out, sizeof out, &count);
     return out;
 }
 
@@ -108,7 +108,7 @@ static const struct {
 /* Prints what is done with a file. */
 static int pick_file(size_t number, const struct predicate *inclusive, const struct predicate *strict)
 {
-    uint8_t summary[WEIGHPICK_SUMMARY];
+    uint8_t summary[WEIGHPICK_SUMMARY_SIZE];
     char words[LINE_SIZE / 2], line[LINE_SIZE];
     put_summary(summary, &FILES[number].file);
     put_words(words, sizeof words, summary);
@@ -123,7 +123,7 @@ static uint32_t put_group(uint8_t *group, size_t first, size_t count)
     uint32_t answer = WEIGHPICK_RESULT;
     put_summary(group, &empty);
     for (size_t i = first; i < first + count && answer == WEIGHPICK_RESULT; i++) {
-        uint8_t summary[WEIGHPICK_SUMMARY];
+        uint8_t summary[WEIGHPICK_SUMMARY_SIZE];
         put_summary(summary, &FILES[i].file);
         answer = add_file(group, summary);
     }
@@ -133,7 +133,7 @@ static uint32_t put_group(uint8_t *group, size_t first, size_t count)
 /* Prints what is done with a group of files: if it is skipped, none of them need be looked at. */
 static int pick_group(size_t number, const struct predicate *inclusive, const struct predicate *strict)
 {
-    uint8_t group[WEIGHPICK_SUMMARY];
+    uint8_t group[WEIGHPICK_SUMMARY_SIZE];
     char words[LINE_SIZE / 2], line[LINE_SIZE];
     uint32_t answer = put_group(group, GROUPS[number].first, GROUPS[number].count);
     if (answer == WEIGHPICK_RESULT) {

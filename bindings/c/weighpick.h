@@ -38,8 +38,10 @@ extern "C" {
  * is 0.
  */
 enum weighpick_answer {
-    WEIGHPICK_RESULT = 0,              /* result written, or the three numbers set; for the holds-test and for a filter: yes */
-    WEIGHPICK_NONE = 1,                /* no predicate; for the holds-test and for a filter: no */
+    WEIGHPICK_RESULT = 0,              /* result written, or the three numbers set */
+    WEIGHPICK_YES = 0,                 /* for the holds-test and for a filter */
+    WEIGHPICK_NONE = 1,                /* no predicate */
+    WEIGHPICK_NO = 1,                  /* for the holds-test and for a filter */
     WEIGHPICK_BUFFER_TOO_SMALL = 2,    /* result buffer under WEIGHPICK_SHEET_BUFFER, _VALUE_BUFFER or _VERDICT_BUFFER */
     WEIGHPICK_MALFORMED = 3,           /* malformed sheet, value, summary or column list */
     WEIGHPICK_NOT_UTF8 = 4,            /* a String literal, value or end is not UTF-8 */
@@ -48,7 +50,7 @@ enum weighpick_answer {
     WEIGHPICK_FEATURE_UNSUPPORTED = 7, /* transform Unknown */
     WEIGHPICK_OVERFLOW = 8,            /* a number leaves its type, where the crate iceberg panics or wraps */
     WEIGHPICK_OUTSIDE_GRAMMAR = 9,     /* no filter, a name that is not in the list, or a literal that does not fit its column */
-    WEIGHPICK_TOO_LARGE = 10,          /* over WEIGHPICK_TEXT bytes, WEIGHPICK_LEAVES leaves or WEIGHPICK_BRACKETS open brackets */
+    WEIGHPICK_TOO_LARGE = 10,          /* over WEIGHPICK_TEXT_MAX bytes, or a filter over _LEAVES_MAX or _BRACKETS_MAX */
     WEIGHPICK_WRONG_SUMMARY = 11,      /* a summary's lowest is above its highest, or its type is not the sheet's */
     WEIGHPICK_DIFFERENT_TYPES = 12     /* the two summaries have different types */
 };
@@ -66,32 +68,32 @@ enum weighpick_whose {
     WEIGHPICK_SECOND = 1 /* the second's */
 };
 
-/* Sizes, in bytes unless they count something else. */
-#define WEIGHPICK_RECORD 64     /* a record */
-#define WEIGHPICK_LITERALS 64   /* the most literals of a sheet to be projected */
-#define WEIGHPICK_MISSING 65535 /* the length that marks a value as missing */
-#define WEIGHPICK_NAME 16       /* a column's name in a list, with the zeros behind it */
-#define WEIGHPICK_COLUMNS 8     /* the most columns of a list */
-#define WEIGHPICK_TEXT 4096     /* the most bytes of a filter's text */
-#define WEIGHPICK_LEAVES 32     /* the most leaves of a filter */
-#define WEIGHPICK_BRACKETS 16   /* the most brackets of a filter that are open at one place */
+/* What ends in _SIZE has so many bytes, what ends in _MAX is the most there may be, in bytes unless it counts something else. */
+#define WEIGHPICK_RECORD_SIZE 64  /* a record */
+#define WEIGHPICK_LITERALS_MAX 64 /* literals of a sheet to be projected */
+#define WEIGHPICK_MISSING 65535   /* the length that marks a value as missing */
+#define WEIGHPICK_NAME_SIZE 16    /* a column's name in a list, with the zeros behind it */
+#define WEIGHPICK_COLUMNS_MAX 8   /* columns of a list */
+#define WEIGHPICK_TEXT_MAX 4096   /* a filter's text */
+#define WEIGHPICK_LEAVES_MAX 32   /* leaves of a filter */
+#define WEIGHPICK_BRACKETS_MAX 16 /* brackets of a filter that are open at one place */
 
-/* The most content of a record: a String or Binary. */
-#define WEIGHPICK_CONTENT (WEIGHPICK_RECORD - WEIGHPICK_CONTENT_AT)
-/* The largest sheet to be projected: a head and its literals. */
-#define WEIGHPICK_LARGEST_SHEET (WEIGHPICK_RECORD * (1 + WEIGHPICK_LITERALS))
-/* The most literals of an answer sheet, and of a sheet for the holds-test. */
-#define WEIGHPICK_ANSWER_LITERALS (2 * WEIGHPICK_LITERALS)
+/* The content of a record: a String or Binary. */
+#define WEIGHPICK_CONTENT_MAX (WEIGHPICK_RECORD_SIZE - WEIGHPICK_CONTENT_AT)
+/* A sheet to be projected: a head and its literals. */
+#define WEIGHPICK_SHEET_MAX (WEIGHPICK_RECORD_SIZE * (1 + WEIGHPICK_LITERALS_MAX))
+/* Literals of an answer sheet, and of a sheet for the holds-test. */
+#define WEIGHPICK_ANSWER_LITERALS_MAX (2 * WEIGHPICK_LITERALS_MAX)
 /* The least result buffer of a projection. */
-#define WEIGHPICK_SHEET_BUFFER (WEIGHPICK_RECORD * (1 + WEIGHPICK_ANSWER_LITERALS))
+#define WEIGHPICK_SHEET_BUFFER (WEIGHPICK_RECORD_SIZE * (1 + WEIGHPICK_ANSWER_LITERALS_MAX))
 /* The least result buffer of one value's transform. */
-#define WEIGHPICK_VALUE_BUFFER WEIGHPICK_RECORD
+#define WEIGHPICK_VALUE_BUFFER WEIGHPICK_RECORD_SIZE
 /* The least result buffer of a summary's test: a verdict. */
 #define WEIGHPICK_VERDICT_BUFFER 1
 /* An entry of a column list: a name, and a head with next and operator 0. */
-#define WEIGHPICK_COLUMN (WEIGHPICK_NAME + WEIGHPICK_RECORD)
+#define WEIGHPICK_COLUMN_SIZE (WEIGHPICK_NAME_SIZE + WEIGHPICK_RECORD_SIZE)
 /* A summary: two value records, a type and a flag. */
-#define WEIGHPICK_SUMMARY (WEIGHPICK_FLAG_AT + 1)
+#define WEIGHPICK_SUMMARY_SIZE (WEIGHPICK_FLAG_AT + 1)
 
 /* Where the fields of a record lie; the rest of a record is zero. */
 #define WEIGHPICK_NEXT_AT 0      /* 2 bytes: number of the next record on the chain, above this one's; 0 ends it */
@@ -103,12 +105,12 @@ enum weighpick_whose {
 #define WEIGHPICK_CONTENT_AT 4   /* literal: content */
 
 /* Where the parts of a summary lie. */
-#define WEIGHPICK_LOWEST_AT 0                             /* the record of the lowest present value */
-#define WEIGHPICK_HIGHEST_AT WEIGHPICK_RECORD             /* the record of the highest */
-#define WEIGHPICK_SUMMARY_TYPE_AT (2 * WEIGHPICK_RECORD)  /* 1 byte: the type of both */
-#define WEIGHPICK_FLAG_AT (WEIGHPICK_SUMMARY_TYPE_AT + 1) /* 1 byte: the sum of what holds of the two below */
-#define WEIGHPICK_HAS_MISSING 1                           /* a missing value occurs */
-#define WEIGHPICK_NONE_PRESENT 2                          /* no value is present; both records are marked missing */
+#define WEIGHPICK_LOWEST_AT 0                                 /* the record of the lowest present value */
+#define WEIGHPICK_HIGHEST_AT WEIGHPICK_RECORD_SIZE            /* the record of the highest */
+#define WEIGHPICK_SUMMARY_TYPE_AT (2 * WEIGHPICK_RECORD_SIZE) /* 1 byte: the type of both */
+#define WEIGHPICK_FLAG_AT (WEIGHPICK_SUMMARY_TYPE_AT + 1)     /* 1 byte: the sum of what holds of the two below */
+#define WEIGHPICK_HAS_MISSING 1                               /* a missing value occurs */
+#define WEIGHPICK_NONE_PRESENT 2                              /* no value is present; both records are marked missing */
 
 /* Operators; 101 to 104 take no literal, 201 to 208 one, 301 and 302 a set of any size up to the most. */
 enum weighpick_operator {
@@ -138,8 +140,8 @@ enum weighpick_type {
     WEIGHPICK_TIMESTAMPTZ = 6,    /* the same, with a time zone */
     WEIGHPICK_TIMESTAMP_NS = 7,   /* 8 bytes: nanoseconds from 1970-01-01 */
     WEIGHPICK_TIMESTAMPTZ_NS = 8, /* the same, with a time zone */
-    WEIGHPICK_STRING = 9,         /* 0 to WEIGHPICK_CONTENT bytes of UTF-8 */
-    WEIGHPICK_BINARY = 10         /* 0 to WEIGHPICK_CONTENT bytes */
+    WEIGHPICK_STRING = 9,         /* 0 to WEIGHPICK_CONTENT_MAX bytes of UTF-8 */
+    WEIGHPICK_BINARY = 10         /* 0 to WEIGHPICK_CONTENT_MAX bytes */
 };
 
 /* Transforms. */
@@ -210,7 +212,7 @@ uint32_t weighpick_pool(const uint8_t *first, size_t first_len, const uint8_t *s
                         uint64_t *highest, uint64_t *flag);
 
 /*
- * Filters. `columns` is a list of 1 to WEIGHPICK_COLUMNS entries, `text` the filter's bytes, without a zero behind them, and
+ * Filters. `columns` is a list of 1 to WEIGHPICK_COLUMNS_MAX entries, `text` the filter's bytes, without a zero behind them, and
  * `values` one value record a column, in the list's order. Nothing is written.
  */
 

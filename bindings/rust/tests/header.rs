@@ -1,10 +1,11 @@
 //! The C header has the same numbers, and the same version.
 
-use weighpick::filter::{BRACKETS, COLUMN, COLUMNS, LEAVES, NAME, TEXT};
+use weighpick::filter::{BRACKETS_MAX, COLUMNS_MAX, COLUMN_SIZE, LEAVES_MAX, NAME_SIZE, TEXT_MAX};
 use weighpick::sheet::{
-    ANSWER_LITERALS, CONTENT, LARGEST_SHEET, LITERALS, RECORD, SHEET_BUFFER, VALUE_BUFFER,
+    ANSWER_LITERALS_MAX, CONTENT_MAX, LITERALS_MAX, RECORD_SIZE, SHEET_BUFFER, SHEET_MAX,
+    VALUE_BUFFER,
 };
-use weighpick::summary::{Whose, SUMMARY, VERDICT_BUFFER};
+use weighpick::summary::{Whose, SUMMARY_SIZE, VERDICT_BUFFER};
 use weighpick::{Literal, PredicateOperator, Refusal, Summary, Transform, Type, Value, Verdict};
 
 const HEADER: &str = include_str!("../../c/weighpick.h");
@@ -69,25 +70,32 @@ fn version() {
     }
 }
 
+/// Every size of the header is here, and is this crate's.
 #[test]
 fn sizes() {
     let sizes = [
-        ("RECORD", RECORD),
-        ("CONTENT", CONTENT),
-        ("LITERALS", LITERALS),
-        ("ANSWER_LITERALS", ANSWER_LITERALS),
-        ("LARGEST_SHEET", LARGEST_SHEET),
+        ("RECORD_SIZE", RECORD_SIZE),
+        ("LITERALS_MAX", LITERALS_MAX),
+        ("NAME_SIZE", NAME_SIZE),
+        ("COLUMNS_MAX", COLUMNS_MAX),
+        ("TEXT_MAX", TEXT_MAX),
+        ("LEAVES_MAX", LEAVES_MAX),
+        ("BRACKETS_MAX", BRACKETS_MAX),
+        ("CONTENT_MAX", CONTENT_MAX),
+        ("SHEET_MAX", SHEET_MAX),
+        ("ANSWER_LITERALS_MAX", ANSWER_LITERALS_MAX),
         ("SHEET_BUFFER", SHEET_BUFFER),
         ("VALUE_BUFFER", VALUE_BUFFER),
-        ("NAME", NAME),
-        ("COLUMN", COLUMN),
-        ("COLUMNS", COLUMNS),
-        ("TEXT", TEXT),
-        ("LEAVES", LEAVES),
-        ("BRACKETS", BRACKETS),
-        ("SUMMARY", SUMMARY),
         ("VERDICT_BUFFER", VERDICT_BUFFER),
+        ("COLUMN_SIZE", COLUMN_SIZE),
+        ("SUMMARY_SIZE", SUMMARY_SIZE),
     ];
+    let defined = HEADER.lines().filter_map(|line| {
+        let name = line.strip_prefix("#define WEIGHPICK_")?.split(' ').next()?;
+        let is_size = ["_SIZE", "_MAX", "_BUFFER"].map(|end| name.ends_with(end));
+        is_size.contains(&true).then_some(name)
+    });
+    assert!(defined.eq(sizes.map(|(name, _)| name)));
     for (name, size) in sizes {
         assert_eq!(in_header(name), Some(size), "{name}");
     }
@@ -115,8 +123,9 @@ fn numbers() {
         let number = in_header(&c_name(whose));
         assert_eq!(number, Some(whose.number() as usize), "{whose:?}");
     }
-    assert_eq!(in_header("RESULT"), Some(0));
-    assert_eq!(in_header("NONE"), Some(1));
+    for (name, number) in [("RESULT", 0), ("YES", 0), ("NONE", 1), ("NO", 1)] {
+        assert_eq!(in_header(name), Some(number), "{name}");
+    }
 }
 
 #[test]
@@ -139,7 +148,7 @@ fn parts_of_a_summary() {
     let file = Summary::between(lowest, highest).expect("two values of one type");
     for (name, end) in [("LOWEST_AT", lowest), ("HIGHEST_AT", highest)] {
         let record = Value::from(end.clone()).to_record(Type::Long);
-        let bytes = &file.as_bytes()[at(name)..][..RECORD];
+        let bytes = &file.as_bytes()[at(name)..][..RECORD_SIZE];
         assert_eq!(record.as_ref().map(|r| &r[..]), Ok(bytes), "{name}");
     }
     let type_and_flag = |file: &Summary| {
