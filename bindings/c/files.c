@@ -11,18 +11,16 @@ struct file {
     uint8_t flag;
 };
 
-/* Writes the summary of a file. */
-static void put_summary(uint8_t *summary, const struct file *file)
+/* Builds the summary of a file. */
+static int put_file(uint8_t *summary, size_t room, const struct file *file)
 {
-    uint8_t *lowest = summary + WEIGHPICK_LOWEST_AT, *highest = summary + WEIGHPICK_HIGHEST_AT;
-    put_int(lowest, file->lowest);
-    put_int(highest, file->highest);
+    uint8_t lowest[WEIGHPICK_RECORD_SIZE], highest[WEIGHPICK_RECORD_SIZE];
+    int has_missing = file->flag & WEIGHPICK_HAS_MISSING;
     if (file->flag & WEIGHPICK_NONE_PRESENT) {
-        put_missing(lowest);
-        put_missing(highest);
+        return weighpick_put_empty_summary(summary, room, WEIGHPICK_INT, has_missing);
     }
-    summary[WEIGHPICK_SUMMARY_TYPE_AT] = WEIGHPICK_INT;
-    summary[WEIGHPICK_FLAG_AT] = file->flag;
+    return weighpick_put_int(lowest, sizeof lowest, file->lowest) && weighpick_put_int(highest, sizeof highest, file->highest)
+           && weighpick_put_summary(summary, room, WEIGHPICK_INT, lowest, highest, has_missing);
 }
 
 /*
@@ -71,11 +69,12 @@ static const char *pick(const struct predicate *inclusive, const struct predicat
 static void put_words(char *line, size_t size, const uint8_t *summary)
 {
     uint8_t flag = summary[WEIGHPICK_FLAG_AT];
-    if (flag & WEIGHPICK_NONE_PRESENT) {
-        snprintf(line, size, "%s", flag & WEIGHPICK_HAS_MISSING ? "missing" : "empty");
+    int32_t lowest, highest;
+    if (weighpick_get_int(summary + WEIGHPICK_LOWEST_AT, WEIGHPICK_RECORD_SIZE, &lowest)
+        && weighpick_get_int(summary + WEIGHPICK_HIGHEST_AT, WEIGHPICK_RECORD_SIZE, &highest)) {
+        snprintf(line, size, "%ld to %ld%s", (long)lowest, (long)highest, flag & WEIGHPICK_HAS_MISSING ? ", missing" : "");
     } else {
-        snprintf(line, size, "%ld to %ld%s", (long)get_int(summary + WEIGHPICK_LOWEST_AT),
-                 (long)get_int(summary + WEIGHPICK_HIGHEST_AT), flag & WEIGHPICK_HAS_MISSING ? ", missing" : "");
+        snprintf(line, size, "%s", flag & WEIGHPICK_HAS_MISSING ? "missing" : "empty");
     }
 }
 
@@ -110,22 +109,21 @@ static int pick_file(size_t number, const struct predicate *inclusive, const str
 {
     uint8_t summary[WEIGHPICK_SUMMARY_SIZE];
     char words[LINE_SIZE / 2], line[LINE_SIZE];
-    put_summary(summary, &FILES[number].file);
+    if (!put_file(summary, sizeof summary, &FILES[number].file)) {
+        return 0;
+    }
     put_words(words, sizeof words, summary);
     snprintf(line, sizeof line, "%s: %s", words, pick(inclusive, strict, summary));
     return print_line(line, FILES[number].expected);
 }
 
 /* Pools the files of a group, and returns the first refusal. An empty file, with which it begins, adds nothing. */
-static uint32_t put_group(uint8_t *group, size_t first, size_t count)
+static uint32_t put_group(uint8_t *group, size_t room, size_t first, size_t count)
 {
-    static const struct file empty = {0, 0, WEIGHPICK_NONE_PRESENT};
-    uint32_t answer = WEIGHPICK_RESULT;
-    put_summary(group, &empty);
+    uint32_t answer = weighpick_put_empty_summary(group, room, WEIGHPICK_INT, 0) ? WEIGHPICK_RESULT : WEIGHPICK_MALFORMED;
     for (size_t i = first; i < first + count && answer == WEIGHPICK_RESULT; i++) {
         uint8_t summary[WEIGHPICK_SUMMARY_SIZE];
-        put_summary(summary, &FILES[i].file);
-        answer = add_file(group, summary);
+        answer = put_file(summary, sizeof summary, &FILES[i].file) ? add_file(group, summary) : WEIGHPICK_MALFORMED;
     }
     return answer;
 }
@@ -135,7 +133,7 @@ static int pick_group(size_t number, const struct predicate *inclusive, const st
 {
     uint8_t group[WEIGHPICK_SUMMARY_SIZE];
     char words[LINE_SIZE / 2], line[LINE_SIZE];
-    uint32_t answer = put_group(group, GROUPS[number].first, GROUPS[number].count);
+    uint32_t answer = put_group(group, sizeof group, GROUPS[number].first, GROUPS[number].count);
     if (answer == WEIGHPICK_RESULT) {
         put_words(words, sizeof words, group);
         snprintf(line, sizeof line, "group %s: %s", words, pick(inclusive, strict, group));
@@ -149,12 +147,14 @@ int main(void)
 {
     uint8_t sheet[SAMPLE_SIZE];
     struct predicate inclusive, strict;
-    int good = 1;
     if (weighpick_version() != WEIGHPICK_VERSION_NUMBER) {
         fprintf(stderr, "the library is not of version %s\n", WEIGHPICK_VERSION);
         return 1;
     }
-    put_sheet(sheet, 300);
+    if (!put_sample(sheet, sizeof sheet)) {
+        return 1;
+    }
+    int good = 1;
     weighpick_project(sheet, sizeof sheet, inclusive.sheet, sizeof inclusive.sheet, &inclusive.count);
     weighpick_strict_project(sheet, sizeof sheet, strict.sheet, sizeof strict.sheet, &strict.count);
     for (size_t i = 0; i < sizeof FILES / sizeof FILES[0]; i++) {

@@ -9,7 +9,8 @@
  * value record a column, side by side.
  *
  * A summary says what a file list knows of a file: the records of its lowest and highest partition value, their type, and whether
- * a missing one occurs. Two of them are pooled into one, which says it of both files. docs/FORMAT.md says all of it, with examples.
+ * a missing one occurs. Two of them are pooled into one, which says it of both files. docs/FORMAT.md says all of it, with examples;
+ * weighpick_build.h builds the bytes.
  *
  * The routines take bytes of every kind, keep no state and may run on several threads at once. Any lent memory must be readable
  * (`out`, `count` and the three numbers of pooling: writable) for its whole length; no pointer may be null, also with a length of
