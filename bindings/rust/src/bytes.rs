@@ -2,14 +2,14 @@
 
 use std::hash::{Hash, Hasher};
 
-use crate::record::{Record, RECORD};
+use crate::record::{Record, RECORD_SIZE};
 
 /// The bytes of a sheet's records, in the order of its chain. Most sheets have one record or two, and these lie in place: memory
 /// from the heap takes about a third of the time that the projection of such a leaf does.
 #[derive(Clone)]
 pub(crate) enum Bytes {
-    One(Aligned<RECORD>),
-    Two(Aligned<{ 2 * RECORD }>),
+    One(Aligned<RECORD_SIZE>),
+    Two(Aligned<{ 2 * RECORD_SIZE }>),
     /// Any number of records.
     Many(Vec<u8>),
 }
@@ -41,9 +41,9 @@ impl Bytes {
     /// Two records.
     #[inline]
     pub(crate) fn two(first: &Record, second: &Record) -> Bytes {
-        let mut two = [0; 2 * RECORD];
-        two[..RECORD].copy_from_slice(first);
-        two[RECORD..].copy_from_slice(second);
+        let mut two = [0; 2 * RECORD_SIZE];
+        two[..RECORD_SIZE].copy_from_slice(first);
+        two[RECORD_SIZE..].copy_from_slice(second);
         Bytes::Two(Aligned(two))
     }
 

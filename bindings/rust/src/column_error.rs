@@ -3,7 +3,7 @@
 use std::error::Error;
 use std::fmt::{self, Display, Formatter};
 
-use crate::columns::NAME;
+use crate::columns::NAME_SIZE;
 
 /// What stands against a column list, before the library is asked.
 ///
@@ -24,7 +24,7 @@ pub enum ColumnError {
     NoName,
     /// A name with something else in it than the letters a to z.
     NotLowerCase(String),
-    /// A name of more than [`NAME`](crate::filter::NAME) letters.
+    /// A name of more than [`NAME_SIZE`](crate::filter::NAME_SIZE) letters.
     TooLong(String),
     /// A name that is a word of filters: and, or, not, startswith.
     Reserved(String),
@@ -42,7 +42,7 @@ impl Display for ColumnError {
                 write!(f, "`{name}` is no name: it has more than letters a to z")
             }
             ColumnError::TooLong(name) => {
-                write!(f, "`{name}` is no name: at most {NAME} letters fit")
+                write!(f, "`{name}` is no name: at most {NAME_SIZE} letters fit")
             }
             ColumnError::Reserved(name) => write!(f, "`{name}` is no name: filters use the word"),
             ColumnError::Twice(name) => write!(f, "two columns have the name `{name}`"),

@@ -2,27 +2,27 @@
 
 use std::fmt::{self, Debug, Formatter};
 
-use crate::record::{self, column_head, Record, RECORD};
+use crate::record::{self, column_head, Record, RECORD_SIZE};
 use crate::routines::filter_row;
 use crate::rows::{missing_records, Partition, Row, Types};
 use crate::{ColumnError, Refusal, RowError, Transform, Type, Value};
 
 /// The bytes of a column's name in a list, with the zeros behind it.
-pub const NAME: usize = 16;
+pub const NAME_SIZE: usize = 16;
 
 /// The bytes of an entry of a column list: a name and a head.
-pub const COLUMN: usize = NAME + RECORD;
+pub const COLUMN_SIZE: usize = NAME_SIZE + RECORD_SIZE;
 
 /// The most columns of a list.
-pub const COLUMNS: usize = 8;
+pub const COLUMNS_MAX: usize = 8;
 
 /// The words of filters, which no column has for a name.
 const RESERVED: [&str; 4] = ["and", "or", "not", "startswith"];
 
 /// The columns that a [`Filter`](crate::Filter) can name: each has a name, a type, and the transform that splits the table by it.
 ///
-/// A name is 1 to [`NAME`] of the letters a to z, none of the words `and`, `or`, `not` and `startswith`, and no other column's. A
-/// list has 1 to [`COLUMNS`] columns, and is kept as its bytes. A column that the table is not split by has
+/// A name is 1 to [`NAME_SIZE`] of the letters a to z, none of the words `and`, `or`, `not` and `startswith`, and no other
+/// column's. A list has 1 to [`COLUMNS_MAX`] columns, and is kept as its bytes. A column that the table is not split by has
 /// [`Transform::Void`], and missing partition values: its leaves pass no file over.
 ///
 /// ```
@@ -50,15 +50,15 @@ impl Columns {
         let mut bytes = Vec::new();
         for (name, column_type, transform) in columns {
             let name = checked_name(name)?;
-            if bytes.len() == COLUMN * COLUMNS {
-                return Err(ColumnError::TooMany(COLUMNS));
+            if bytes.len() == COLUMN_SIZE * COLUMNS_MAX {
+                return Err(ColumnError::TooMany(COLUMNS_MAX));
             }
             if entries(&bytes).any(|(other, ..)| other == name) {
                 return Err(ColumnError::Twice(name.to_string()));
             }
-            let mut entry = [0; COLUMN];
+            let mut entry = [0; COLUMN_SIZE];
             entry[..name.len()].copy_from_slice(name.as_bytes());
-            entry[NAME..].copy_from_slice(&column_head(column_type, transform));
+            entry[NAME_SIZE..].copy_from_slice(&column_head(column_type, transform));
             bytes.extend_from_slice(&entry);
         }
         if bytes.is_empty() {
@@ -70,8 +70,8 @@ impl Columns {
     /// Reads a column list, as [`as_bytes`](Columns::as_bytes) gives it or as another program wrote it.
     pub fn from_bytes(bytes: &[u8]) -> Result<Columns, Refusal> {
         // The library reads list and values whole before it looks at the text, and an empty text is no filter.
-        let count = (bytes.len() / COLUMN).min(COLUMNS);
-        let values = &missing_records()[..RECORD * count];
+        let count = (bytes.len() / COLUMN_SIZE).min(COLUMNS_MAX);
+        let values = &missing_records()[..RECORD_SIZE * count];
         match filter_row(bytes, &[], values) {
             Err(Refusal::OutsideGrammar) => Ok(Columns::checked(bytes.to_vec())),
             _ => Err(Refusal::Malformed),
@@ -80,7 +80,7 @@ impl Columns {
 
     /// The list of bytes that are one.
     fn checked(bytes: Vec<u8>) -> Columns {
-        let (mut row_types, mut partition_types) = ([None; COLUMNS], [None; COLUMNS]);
+        let (mut row_types, mut partition_types) = ([None; COLUMNS_MAX], [None; COLUMNS_MAX]);
         for (place, (_, column_type, transform)) in entries(&bytes).enumerate() {
             row_types[place] = Some(column_type);
             partition_types[place] = Some(transform.partition_type(column_type));
@@ -153,7 +153,7 @@ fn checked_name(name: &str) -> Result<&str, ColumnError> {
         return Err(ColumnError::NoName);
     } else if !name.bytes().all(|letter| letter.is_ascii_lowercase()) {
         ColumnError::NotLowerCase
-    } else if name.len() > NAME {
+    } else if name.len() > NAME_SIZE {
         ColumnError::TooLong
     } else if RESERVED.contains(&name) {
         ColumnError::Reserved
@@ -165,9 +165,9 @@ fn checked_name(name: &str) -> Result<&str, ColumnError> {
 
 /// The columns of bytes that are a list.
 fn entries(bytes: &[u8]) -> impl ExactSizeIterator<Item = (&str, Type, Transform)> {
-    bytes.chunks_exact(COLUMN).map(|entry| {
-        let (name, head) = entry.split_at(NAME);
-        let letters = name.iter().position(|&byte| byte == 0).unwrap_or(NAME);
+    bytes.chunks_exact(COLUMN_SIZE).map(|entry| {
+        let (name, head) = entry.split_at(NAME_SIZE);
+        let letters = name.iter().position(|&byte| byte == 0).unwrap_or(NAME_SIZE);
         let name = std::str::from_utf8(&name[..letters]).expect("a name is of letters");
         let head: &Record = head.first_chunk().expect("an entry has a head");
         let column_type = record::column_type(head).expect("every type of a list is listed");

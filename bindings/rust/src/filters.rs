@@ -2,19 +2,19 @@
 
 use std::fmt::{self, Debug, Formatter};
 
-use crate::record::RECORD;
+use crate::record::RECORD_SIZE;
 use crate::routines::{filter_project, filter_row, filter_strict_project};
 use crate::rows::missing_records;
 use crate::{Columns, Partition, Pick, Refusal, Row};
 
 /// The most bytes of a filter's text.
-pub const TEXT: usize = 4096;
+pub const TEXT_MAX: usize = 4096;
 
 /// The most leaves of a filter.
-pub const LEAVES: usize = 32;
+pub const LEAVES_MAX: usize = 32;
 
 /// The most brackets of a filter that are open at one place.
-pub const BRACKETS: usize = 16;
+pub const BRACKETS_MAX: usize = 16;
 
 /// A text over a list of columns, as a chef types it: leaves with `and`, `or`, `not` and brackets between them.
 ///
@@ -81,7 +81,7 @@ impl<'a> Filter<'a> {
     /// Whether the text is a filter over the columns; else [`Refusal::OutsideGrammar`] or [`Refusal::TooLarge`]. These two hang on
     /// no value, so that whoever typed the text can be told before a file is looked at.
     pub fn check(&self) -> Result<(), Refusal> {
-        let values = &missing_records()[..RECORD * self.columns.iter().len()];
+        let values = &missing_records()[..RECORD_SIZE * self.columns.iter().len()];
         filter_row(self.columns.as_bytes(), self.text, values).map(|_| ())
     }
 

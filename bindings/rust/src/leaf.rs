@@ -1,7 +1,7 @@
 //! Leaves: what a filter asks of one column, and how the table is split by it.
 
 use crate::ffi::Question;
-use crate::record::{EMPTY, LARGEST_SHEET, LITERALS};
+use crate::record::{EMPTY, LITERALS_MAX, SHEET_MAX};
 use crate::routines::{meets, project, test_summary};
 use crate::sheets::Sheet;
 use crate::{
@@ -78,7 +78,7 @@ impl Leaf {
         Ok(Leaf { sheet })
     }
 
-    /// A leaf with a set of at most [`LITERALS`](crate::sheet::LITERALS) literals, repeats among them: In, NotIn.
+    /// A leaf with a set of at most [`LITERALS_MAX`](crate::sheet::LITERALS_MAX) literals, repeats among them: In, NotIn.
     ///
     /// ```
     /// use weighpick::{Leaf, Literal, PredicateOperator, Transform, Type};
@@ -100,8 +100,8 @@ impl Leaf {
         }
         let mut sheet = Sheet::new(operator, column_type, transform);
         for literal in literals {
-            if sheet.len() == LITERALS {
-                return Err(LeafError::TooMany(LITERALS));
+            if sheet.len() == LITERALS_MAX {
+                return Err(LeafError::TooMany(LITERALS_MAX));
             }
             sheet.push(literal)?;
         }
@@ -110,7 +110,7 @@ impl Leaf {
 
     /// Reads the sheet of a leaf, as [`as_bytes`](Leaf::as_bytes) gives it or as another program wrote it.
     pub fn from_bytes(bytes: &[u8]) -> Result<Leaf, Refusal> {
-        if bytes.len() > LARGEST_SHEET {
+        if bytes.len() > SHEET_MAX {
             return Err(Refusal::Malformed);
         }
         let sheet = Sheet::from_bytes(bytes)?;
@@ -142,7 +142,7 @@ impl Leaf {
         self.sheet.literals()
     }
 
-    /// The leaf of a sheet that has as many literals as its operator takes, and at most [`LITERALS`].
+    /// The leaf of a sheet that has as many literals as its operator takes, and at most [`LITERALS_MAX`].
     pub(crate) fn from_sheet(sheet: Sheet) -> Leaf {
         Leaf { sheet }
     }

@@ -3,18 +3,18 @@
 use std::error::Error;
 use std::fmt::{self, Display, Formatter};
 
-use crate::record::CONTENT;
+use crate::record::CONTENT_MAX;
 use crate::{PredicateOperator, Type, ValueError};
 
 /// What stands against a leaf, before the library is asked.
 ///
 /// ```
-/// use weighpick::sheet::CONTENT;
+/// use weighpick::sheet::CONTENT_MAX;
 /// use weighpick::{Leaf, LeafError, Literal, PredicateOperator, Transform};
 ///
-/// let code = Literal::string("7".repeat(CONTENT + 1));
+/// let code = Literal::string("7".repeat(CONTENT_MAX + 1));
 /// let refused = Leaf::binary(PredicateOperator::Eq, Transform::Identity, &code);
-/// assert_eq!(refused, Err(LeafError::TooLong(CONTENT + 1)));
+/// assert_eq!(refused, Err(LeafError::TooLong(CONTENT_MAX + 1)));
 /// ```
 #[derive(Clone, Copy, Debug, PartialEq, Eq, Hash)]
 #[non_exhaustive]
@@ -51,7 +51,7 @@ impl Display for LeafError {
                 )
             }
             LeafError::TooLong(bytes) => {
-                write!(f, "a literal has {bytes} bytes, at most {CONTENT} fit")
+                write!(f, "a literal has {bytes} bytes, at most {CONTENT_MAX} fit")
             }
             LeafError::TooMany(most) => write!(f, "more than {most} literals"),
         }

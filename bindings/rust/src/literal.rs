@@ -33,9 +33,9 @@ pub enum Literal {
     TimestampNs(i64),
     /// Nanoseconds from 1970-01-01, with a time zone.
     TimestamptzNs(i64),
-    /// At most [`CONTENT`](crate::sheet::CONTENT) bytes of UTF-8.
+    /// At most [`CONTENT_MAX`](crate::sheet::CONTENT_MAX) bytes of UTF-8.
     String(String),
-    /// At most [`CONTENT`](crate::sheet::CONTENT) bytes.
+    /// At most [`CONTENT_MAX`](crate::sheet::CONTENT_MAX) bytes.
     Binary(Vec<u8>),
 }
 

@@ -3,28 +3,28 @@
 use crate::{PredicateOperator, Transform, Type};
 
 /// The bytes of a record.
-pub const RECORD: usize = 64;
+pub const RECORD_SIZE: usize = 64;
 
 /// The most bytes of a literal or value, a record's content.
-pub const CONTENT: usize = RECORD - CONTENT_AT;
+pub const CONTENT_MAX: usize = RECORD_SIZE - CONTENT_AT;
 
 /// The most literals of a sheet to be projected.
-pub const LITERALS: usize = 64;
+pub const LITERALS_MAX: usize = 64;
 
 /// The most literals of an answer sheet, and of a sheet that a value is tested with: lifting may add one for each.
-pub const ANSWER_LITERALS: usize = 2 * LITERALS;
+pub const ANSWER_LITERALS_MAX: usize = 2 * LITERALS_MAX;
 
 /// The bytes of the largest sheet to be projected: a head and its literals.
-pub const LARGEST_SHEET: usize = RECORD * (1 + LITERALS);
+pub const SHEET_MAX: usize = RECORD_SIZE * (1 + LITERALS_MAX);
 
 /// The bytes that a projection's result buffer has at least.
-pub const SHEET_BUFFER: usize = RECORD * (1 + ANSWER_LITERALS);
+pub const SHEET_BUFFER: usize = RECORD_SIZE * (1 + ANSWER_LITERALS_MAX);
 
 /// The bytes that the result buffer for one value has at least.
-pub const VALUE_BUFFER: usize = RECORD;
+pub const VALUE_BUFFER: usize = RECORD_SIZE;
 
 /// One record, as a value is handed over.
-pub type Record = [u8; RECORD];
+pub type Record = [u8; RECORD_SIZE];
 
 /// Where a record's content starts, after next and length.
 const CONTENT_AT: usize = 4;
@@ -33,7 +33,7 @@ const CONTENT_AT: usize = 4;
 const MISSING: u16 = 65535;
 
 /// A record of zeros, to be written to.
-pub(crate) const EMPTY: Record = [0; RECORD];
+pub(crate) const EMPTY: Record = [0; RECORD_SIZE];
 
 /// Writes the first two words of a record. Fields that are written one by one and then read together make a processor wait, so
 /// they are put together first.
@@ -114,7 +114,7 @@ pub(crate) fn put_long(record: &mut Record, number: i64) {
 pub(crate) fn put_content(record: &mut Record, content: &[u8]) -> Option<()> {
     let place = record[CONTENT_AT..].get_mut(..content.len())?;
     place.copy_from_slice(content);
-    // At most CONTENT, so the number fits.
+    // At most CONTENT_MAX, so the number fits.
     put_length(record, content.len() as u16);
     Some(())
 }

@@ -36,8 +36,8 @@ pub enum Refusal {
     Overflow = 8,
     /// A text that is no filter, that names a column which is not in the list, or a literal of which does not fit its column.
     OutsideGrammar = 9,
-    /// A text of more than [`TEXT`](crate::filter::TEXT) bytes, or a filter of more than [`LEAVES`](crate::filter::LEAVES) leaves
-    /// or [`BRACKETS`](crate::filter::BRACKETS) open brackets.
+    /// A text of more than [`TEXT_MAX`](crate::filter::TEXT_MAX) bytes, or a filter of more than
+    /// [`LEAVES_MAX`](crate::filter::LEAVES_MAX) leaves or [`BRACKETS_MAX`](crate::filter::BRACKETS_MAX) open brackets.
     TooLarge = 10,
     /// A summary whose lowest is above its highest, or whose type is not the sheet's.
     WrongSummary = 11,

@@ -149,7 +149,7 @@ fn written(answer: Answer, out: &[u8]) -> Result<&[u8], Refusal> {
 }
 
 /// The holds-test: whether the value in a record meets a sheet's leaf, or an answer sheet's predicate. It takes up to
-/// [`ANSWER_LITERALS`](crate::sheet::ANSWER_LITERALS) literals and looks at neither transform nor width.
+/// [`ANSWER_LITERALS_MAX`](crate::sheet::ANSWER_LITERALS_MAX) literals and looks at neither transform nor width.
 pub fn holds(sheet: &[u8], value: &[u8]) -> Result<bool, Refusal> {
     said(ffi::holds(sheet, value))
 }
@@ -212,7 +212,7 @@ pub fn test_summary_into<'a>(
 /// [`Refusal::DifferentTypes`].
 ///
 /// ```
-/// use weighpick::sheet::RECORD;
+/// use weighpick::sheet::RECORD_SIZE;
 /// use weighpick::summary::{pool, Whose};
 /// use weighpick::{Literal, Summary};
 ///
@@ -220,7 +220,7 @@ pub fn test_summary_into<'a>(
 /// let second = Summary::between(&Literal::Int(0), &Literal::Int(310))?.with_missing(true);
 /// let pooled = pool(first.as_bytes(), second.as_bytes())?;
 /// assert_eq!((pooled.lowest.whose, pooled.highest.whose), (Whose::Second, Whose::First));
-/// assert_eq!(pooled.lowest.record, &second.as_bytes()[..RECORD]);
+/// assert_eq!(pooled.lowest.record, &second.as_bytes()[..RECORD_SIZE]);
 /// assert_eq!(pooled.flag, 1);
 /// # Ok::<(), weighpick::Error>(())
 /// ```

@@ -2,16 +2,16 @@
 
 use std::fmt::{self, Debug, Formatter};
 
-use crate::columns::COLUMNS;
-use crate::record::{put_missing, Record, EMPTY, RECORD};
+use crate::columns::COLUMNS_MAX;
+use crate::record::{put_missing, Record, EMPTY, RECORD_SIZE};
 use crate::{Columns, Refusal, RowError, Type, Value};
 
 /// The types of the values beside a column list, in its order; none behind the last column.
-pub(crate) type Types = [Option<Type>; COLUMNS];
+pub(crate) type Types = [Option<Type>; COLUMNS_MAX];
 
 /// The records of the values beside a column list, and zeros behind the last column's. They lie in place, so that a row needs no
 /// memory from the heap.
-type Records = [u8; RECORD * COLUMNS];
+type Records = [u8; RECORD_SIZE * COLUMNS_MAX];
 
 /// A row of a column list, made by [`Columns::row`].
 #[derive(Clone, PartialEq, Eq, Hash)]
@@ -94,8 +94,10 @@ impl Values {
     ) -> Result<Values, RowError> {
         let count = columns.iter().len();
         let mut values = values.into_iter();
-        let mut records = [0; RECORD * COLUMNS];
-        let places = records.chunks_exact_mut(RECORD).zip(types.iter().flatten());
+        let mut records = [0; RECORD_SIZE * COLUMNS_MAX];
+        let places = records
+            .chunks_exact_mut(RECORD_SIZE)
+            .zip(types.iter().flatten());
         for (before, (place, value_type)) in places.enumerate() {
             let value = values.next().ok_or(RowError::WrongCount(count, before))?;
             let record: &mut Record = place.first_chunk_mut().expect("room for a record");
@@ -116,7 +118,7 @@ impl Values {
 
     fn as_bytes(&self) -> &[u8] {
         let count = self.types.iter().flatten().count();
-        &self.records[..RECORD * count]
+        &self.records[..RECORD_SIZE * count]
     }
 
     /// The records, if they are of these types. It is asked here, since the library goes by the bytes, and those of an Int and of a
@@ -132,7 +134,7 @@ impl Values {
 
 impl Debug for Values {
     fn fmt(&self, f: &mut Formatter<'_>) -> fmt::Result {
-        let values = self.as_bytes().chunks_exact(RECORD);
+        let values = self.as_bytes().chunks_exact(RECORD_SIZE);
         let values = values.zip(self.types.iter().flatten());
         let values = values.map(|(record, value_type)| Value::read(*value_type, record));
         f.debug_list().entries(values).finish()
@@ -143,8 +145,8 @@ impl Debug for Values {
 pub(crate) fn missing_records() -> Records {
     let mut missing = EMPTY;
     put_missing(&mut missing);
-    let mut records = [0; RECORD * COLUMNS];
-    let places = records.chunks_exact_mut(RECORD);
+    let mut records = [0; RECORD_SIZE * COLUMNS_MAX];
+    let places = records.chunks_exact_mut(RECORD_SIZE);
     places.for_each(|place| place.copy_from_slice(&missing));
     records
 }

@@ -21,7 +21,8 @@
 //! ```
 
 pub use crate::record::{
-    Record, ANSWER_LITERALS, CONTENT, LARGEST_SHEET, LITERALS, RECORD, SHEET_BUFFER, VALUE_BUFFER,
+    Record, ANSWER_LITERALS_MAX, CONTENT_MAX, LITERALS_MAX, RECORD_SIZE, SHEET_BUFFER, SHEET_MAX,
+    VALUE_BUFFER,
 };
 pub use crate::routines::{
     holds, project_into, strict_project_into, strict_project_older_into, transform_into,

@@ -5,7 +5,7 @@ use std::fmt::{self, Debug, Formatter};
 use crate::bytes::Bytes;
 use crate::record::{
     self, content, head_record, next, next_bytes, put_content, put_missing, Record,
-    ANSWER_LITERALS, EMPTY, RECORD,
+    ANSWER_LITERALS_MAX, EMPTY, RECORD_SIZE,
 };
 use crate::routines::holds;
 use crate::{LeafError, Literal, PredicateOperator, Refusal, Transform, Type};
@@ -52,12 +52,12 @@ impl Sheet {
         self.bytes.restart(&head);
     }
 
-    /// Adds a literal at the end of the chain. It has the column's type, and there are at most [`ANSWER_LITERALS`].
+    /// Adds a literal at the end of the chain. It has the column's type, and there are at most [`ANSWER_LITERALS_MAX`].
     pub fn push(&mut self, literal: &Literal) -> Result<(), LeafError> {
         let mut record = EMPTY;
         literal.put(self.column_type(), &mut record)?;
-        if self.len() == ANSWER_LITERALS {
-            return Err(LeafError::TooMany(ANSWER_LITERALS));
+        if self.len() == ANSWER_LITERALS_MAX {
+            return Err(LeafError::TooMany(ANSWER_LITERALS_MAX));
         }
         self.push_record(&record);
         Ok(())
@@ -66,9 +66,9 @@ impl Sheet {
     /// Adds a literal's record, and makes it the next of the last one.
     fn push_record(&mut self, record: &Record) {
         let bytes = self.bytes.as_mut_slice();
-        let last = bytes.len() - RECORD;
-        // At most ANSWER_LITERALS + 1 records, so the number fits.
-        let number = (bytes.len() / RECORD) as u16;
+        let last = bytes.len() - RECORD_SIZE;
+        // At most ANSWER_LITERALS_MAX + 1 records, so the number fits.
+        let number = (bytes.len() / RECORD_SIZE) as u16;
         bytes[last..last + 2].copy_from_slice(&next_bytes(number));
         self.bytes.push(record);
     }
@@ -91,7 +91,7 @@ impl Sheet {
             bytes: Bytes::one(head),
         };
         while next(record) != 0 {
-            record = bytes.get(RECORD * next(record)..)?.first_chunk()?;
+            record = bytes.get(RECORD_SIZE * next(record)..)?.first_chunk()?;
             let mut alone = EMPTY;
             put_content(&mut alone, content(record)?)?;
             sheet.push_record(&alone);
@@ -143,7 +143,7 @@ impl Sheet {
 
     /// How many literals it has.
     pub fn len(&self) -> usize {
-        self.as_bytes().len() / RECORD - 1
+        self.as_bytes().len() / RECORD_SIZE - 1
     }
 
     /// Whether it has no literals.
@@ -153,7 +153,7 @@ impl Sheet {
 
     /// Its literals, in the order of the chain.
     pub fn literals(&self) -> impl ExactSizeIterator<Item = Literal> + '_ {
-        let records = self.as_bytes()[RECORD..].chunks_exact(RECORD);
+        let records = self.as_bytes()[RECORD_SIZE..].chunks_exact(RECORD_SIZE);
         records.map(|bytes| {
             bytes
                 .first_chunk()

@@ -4,13 +4,13 @@ use std::fmt::{self, Debug, Display, Formatter};
 use std::str::FromStr;
 
 use crate::contents::{take_literal, Content};
-use crate::record::{content, head_record, put_missing, Record, RECORD};
+use crate::record::{content, head_record, put_missing, Record, RECORD_SIZE};
 use crate::routines::{pool, test_summary};
 use crate::text::{take_word, MISSING};
 use crate::{Error, Literal, ParseError, PredicateOperator, Refusal, Transform, Type, ValueError};
 
 /// The bytes of a summary: two value records, a type and a flag.
-pub const SUMMARY: usize = FLAG_AT + 1;
+pub const SUMMARY_SIZE: usize = FLAG_AT + 1;
 
 /// The bytes that the result buffer for a verdict has at least.
 pub const VERDICT_BUFFER: usize = 1;
@@ -20,7 +20,7 @@ pub(crate) const LOWEST: usize = 0;
 pub(crate) const HIGHEST: usize = 1;
 
 /// Where the type stands, behind the records of both ends.
-const TYPE_AT: usize = 2 * RECORD;
+const TYPE_AT: usize = 2 * RECORD_SIZE;
 
 /// Where the flag stands.
 const FLAG_AT: usize = TYPE_AT + 1;
@@ -52,7 +52,7 @@ const EMPTY_FILE: &str = "empty";
 /// ```
 #[derive(Clone, PartialEq, Eq, Hash)]
 pub struct Summary {
-    bytes: [u8; SUMMARY],
+    bytes: [u8; SUMMARY_SIZE],
 }
 
 impl Summary {
@@ -102,9 +102,9 @@ impl Summary {
     #[inline]
     pub fn pool(&self, other: &Summary) -> Result<Summary, Refusal> {
         let pooled = pool(&self.bytes, &other.bytes)?;
-        let mut bytes = [0; SUMMARY];
-        bytes[..RECORD].copy_from_slice(pooled.lowest.record);
-        bytes[RECORD..TYPE_AT].copy_from_slice(pooled.highest.record);
+        let mut bytes = [0; SUMMARY_SIZE];
+        bytes[..RECORD_SIZE].copy_from_slice(pooled.lowest.record);
+        bytes[RECORD_SIZE..TYPE_AT].copy_from_slice(pooled.highest.record);
         bytes[TYPE_AT] = self.bytes[TYPE_AT];
         bytes[FLAG_AT] = pooled.flag;
         Ok(Summary { bytes })
@@ -139,7 +139,7 @@ impl Summary {
 
     /// A summary with records of zeros.
     fn new(column_type: Type, flag: u8) -> Summary {
-        let mut bytes = [0; SUMMARY];
+        let mut bytes = [0; SUMMARY_SIZE];
         bytes[TYPE_AT] = column_type.number();
         bytes[FLAG_AT] = flag;
         Summary { bytes }
@@ -147,7 +147,7 @@ impl Summary {
 
     /// The record of an end, the lowest's first.
     fn record_mut(&mut self, place: usize) -> &mut Record {
-        let record = self.bytes[RECORD * place..].first_chunk_mut();
+        let record = self.bytes[RECORD_SIZE * place..].first_chunk_mut();
         record.expect("a summary has two records")
     }
 
@@ -199,7 +199,7 @@ impl Summary {
 /// The record of an end, if there are so many bytes.
 #[inline]
 pub(crate) fn end_record(summary: &[u8], place: usize) -> Option<&Record> {
-    summary.get(RECORD * place..)?.first_chunk()
+    summary.get(RECORD_SIZE * place..)?.first_chunk()
 }
 
 /// The sheet of a leaf of a type, without literals.

@@ -13,7 +13,7 @@ use std::fmt::{self, Display, Formatter};
 use std::str::FromStr;
 
 use crate::contents::{take_literal, Content};
-use crate::record::LITERALS;
+use crate::record::LITERALS_MAX;
 use crate::sheets::Sheet;
 use crate::{
     Error, Leaf, LeafError, Literal, ParseError, Predicate, PredicateOperator, Transform, Type,
@@ -75,8 +75,8 @@ impl FromStr for Leaf {
         let (column_type, rest) = take_word(text)?;
         let (transform, condition) = take_word(rest)?;
         let sheet = read_condition(column_type, transform, condition)?;
-        if sheet.len() > LITERALS {
-            return Err(LeafError::TooMany(LITERALS).into());
+        if sheet.len() > LITERALS_MAX {
+            return Err(LeafError::TooMany(LITERALS_MAX).into());
         }
         Ok(Leaf::from_sheet(sheet))
     }

@@ -3,7 +3,7 @@
 use std::error::Error;
 use std::fmt::{self, Display, Formatter};
 
-use crate::record::CONTENT;
+use crate::record::CONTENT_MAX;
 use crate::Type;
 
 /// A value that a column, or the partition values of a table, cannot have. The library was not asked.
@@ -34,7 +34,7 @@ impl Display for ValueError {
                 write!(f, "a value of type {value} for a column of type {column}")
             }
             ValueError::TooLong(bytes) => {
-                write!(f, "a value has {bytes} bytes, at most {CONTENT} fit")
+                write!(f, "a value has {bytes} bytes, at most {CONTENT_MAX} fit")
             }
         }
     }

@@ -3,7 +3,7 @@
 mod support;
 
 use support::TRANSFORMS;
-use weighpick::filter::{COLUMN, COLUMNS, NAME};
+use weighpick::filter::{COLUMNS_MAX, COLUMN_SIZE, NAME_SIZE};
 use weighpick::{ColumnError, Columns, Refusal, Transform, Type};
 
 /// A list of Ints with these names.
@@ -18,8 +18,8 @@ fn ints<'a>(names: impl IntoIterator<Item = &'a str>) -> Result<Columns, ColumnE
 fn entry(name: &str) -> Vec<u8> {
     let column = ints(["a"]).expect("a name");
     let mut entry = column.as_bytes().to_vec();
-    entry[..NAME].fill(0);
-    let letters = entry.iter_mut().take(NAME).zip(name.bytes());
+    entry[..NAME_SIZE].fill(0);
+    let letters = entry.iter_mut().take(NAME_SIZE).zip(name.bytes());
     letters.for_each(|(to, letter)| *to = letter);
     entry
 }
@@ -44,9 +44,9 @@ fn names() {
         assert_eq!(wrong(name), None, "{name}");
         assert!(Columns::from_bytes(&entry(name)).is_ok(), "{name}");
     }
-    assert_eq!(wrong(&"a".repeat(NAME)), None);
+    assert_eq!(wrong(&"a".repeat(NAME_SIZE)), None);
     assert_eq!(wrong(""), Some(ColumnError::NoName));
-    let longer = "a".repeat(NAME + 1);
+    let longer = "a".repeat(NAME_SIZE + 1);
     let expected = ColumnError::TooLong(longer.clone());
     assert_eq!(wrong(&longer), Some(expected));
     for word in ["and", "or", "not", "startswith"] {
@@ -83,7 +83,7 @@ fn the_library_refuses_the_same_names() {
     }
     // A letter behind the zeros.
     let mut parted = entry("lot");
-    parted[NAME - 1] = b'a';
+    parted[NAME_SIZE - 1] = b'a';
     assert_eq!(Columns::from_bytes(&parted), Err(Refusal::Malformed));
 }
 
@@ -91,11 +91,11 @@ fn the_library_refuses_the_same_names() {
 fn lists() {
     assert_eq!(ints([]), Err(ColumnError::NoColumn));
     let letters = ["a", "b", "c", "d", "e", "f", "g", "h", "i"];
-    let (most, more) = (&letters[..COLUMNS], &letters[..=COLUMNS]);
+    let (most, more) = (&letters[..COLUMNS_MAX], &letters[..=COLUMNS_MAX]);
     let list = ints(most.iter().copied()).expect("as many as a list has");
-    assert_eq!(list.as_bytes().len(), COLUMN * COLUMNS);
+    assert_eq!(list.as_bytes().len(), COLUMN_SIZE * COLUMNS_MAX);
     let refused = ints(more.iter().copied());
-    assert_eq!(refused, Err(ColumnError::TooMany(COLUMNS)));
+    assert_eq!(refused, Err(ColumnError::TooMany(COLUMNS_MAX)));
     assert_eq!(
         ints(["a", "lot", "b", "lot"]),
         Err(ColumnError::Twice("lot".to_string()))
@@ -119,14 +119,14 @@ fn the_words_of_what_is_wrong() {
     for (list, expected) in words {
         assert_eq!(list.expect_err("wrong").to_string(), expected);
     }
-    let long = "a".repeat(NAME + 1);
-    let expected = format!("`{long}` is no name: at most {NAME} letters fit");
+    let long = "a".repeat(NAME_SIZE + 1);
+    let expected = format!("`{long}` is no name: at most {NAME_SIZE} letters fit");
     assert_eq!(
         ints([long.as_str()]).expect_err("long").to_string(),
         expected
     );
-    let many = ColumnError::TooMany(COLUMNS).to_string();
-    assert_eq!(many, format!("more than {COLUMNS} columns"));
+    let many = ColumnError::TooMany(COLUMNS_MAX).to_string();
+    assert_eq!(many, format!("more than {COLUMNS_MAX} columns"));
 }
 
 #[test]
@@ -147,9 +147,9 @@ fn lists_are_read_back() {
 #[test]
 fn the_bytes_of_an_entry() {
     let list = Columns::new([("lot", Type::String, Transform::Truncate(4))]).expect("a column");
-    let mut bytes = [0; COLUMN];
+    let mut bytes = [0; COLUMN_SIZE];
     bytes[..3].copy_from_slice(b"lot");
-    bytes[NAME..][4..9].copy_from_slice(&[9, 1, 0, 0, 4]);
+    bytes[NAME_SIZE..][4..9].copy_from_slice(&[9, 1, 0, 0, 4]);
     assert_eq!(list.as_bytes(), bytes);
 }
 
@@ -164,16 +164,16 @@ fn broken_lists() {
     };
     let lists = [
         Vec::new(),
-        list[..COLUMN - 1].to_vec(),
+        list[..COLUMN_SIZE - 1].to_vec(),
         [list, &[0]].concat(),
         entry("a").repeat(2),
-        spoilt(COLUMN, b'a'),         // a name twice
-        spoilt(NAME, 1),              // next
-        spoilt(NAME + 2, 201),        // operator
-        spoilt(NAME + 4, 0),          // type
-        spoilt(NAME + 5, 8),          // transform
-        spoilt(COLUMN + NAME + 8, 1), // a width without Truncate
-        spoilt(2 * COLUMN - 1, 1),    // reserved
+        spoilt(COLUMN_SIZE, b'a'),              // a name twice
+        spoilt(NAME_SIZE, 1),                   // next
+        spoilt(NAME_SIZE + 2, 201),             // operator
+        spoilt(NAME_SIZE + 4, 0),               // type
+        spoilt(NAME_SIZE + 5, 8),               // transform
+        spoilt(COLUMN_SIZE + NAME_SIZE + 8, 1), // a width without Truncate
+        spoilt(2 * COLUMN_SIZE - 1, 1),         // reserved
     ];
     for list in lists {
         assert_eq!(Columns::from_bytes(&list), Err(Refusal::Malformed));
@@ -182,5 +182,5 @@ fn broken_lists() {
     let names = ["a", "b", "c", "d", "e", "f", "g", "h", "i"];
     let many: Vec<u8> = names.iter().flat_map(|name| entry(name)).collect();
     assert_eq!(Columns::from_bytes(&many), Err(Refusal::Malformed));
-    assert!(Columns::from_bytes(&many[..COLUMN * COLUMNS]).is_ok());
+    assert!(Columns::from_bytes(&many[..COLUMN_SIZE * COLUMNS_MAX]).is_ok());
 }

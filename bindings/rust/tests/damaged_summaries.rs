@@ -3,23 +3,23 @@
 mod support;
 
 use support::files::{answer, file_in_text, sheet, with, FLAG_AT, TYPE_AT};
-use weighpick::sheet::{holds, RECORD};
-use weighpick::summary::SUMMARY;
+use weighpick::sheet::{holds, RECORD_SIZE};
+use weighpick::summary::SUMMARY_SIZE;
 use weighpick::{Refusal, Summary, Type};
 
 /// 02: "two value records, lowest first, a type byte and a flag byte: 1 for a missing value, plus 2 for none present, when both ends
 /// are marked missing; any other shape is 3". Whether a record is a value's is asked of the holds-test.
-fn is_summary(bytes: &[u8; SUMMARY]) -> bool {
+fn is_summary(bytes: &[u8; SUMMARY_SIZE]) -> bool {
     let Some(column_type) = Type::from_number(bytes[TYPE_AT]) else {
         return false;
     };
     let is_null = sheet(&format!("{column_type} identity IS NULL"));
-    let marked_missing = |record: usize| match holds(&is_null, &bytes[RECORD * record..][..RECORD])
-    {
-        Ok(missing) => Some(missing),
-        Err(Refusal::NotUtf8) => Some(false),
-        Err(_) => None,
-    };
+    let marked_missing =
+        |record: usize| match holds(&is_null, &bytes[RECORD_SIZE * record..][..RECORD_SIZE]) {
+            Ok(missing) => Some(missing),
+            Err(Refusal::NotUtf8) => Some(false),
+            Err(_) => None,
+        };
     let none_present = match bytes[FLAG_AT] {
         0 | 1 => false,
         2 | 3 => true,
@@ -48,7 +48,8 @@ fn every_byte() {
         "int empty",
         "string missing",
     ] {
-        for (at, byte) in (0..SUMMARY).flat_map(|at| (0..=u8::MAX).map(move |byte| (at, byte))) {
+        for (at, byte) in (0..SUMMARY_SIZE).flat_map(|at| (0..=u8::MAX).map(move |byte| (at, byte)))
+        {
             let damaged = with(file_in_text(text), at, byte);
             let malformed = !is_summary(damaged.as_slice().try_into().expect("a summary's size"));
             for leaf in &leaves {

@@ -4,7 +4,7 @@ mod support;
 
 use support::meets::meets_missing;
 use support::sample::Random;
-use weighpick::sheet::{CONTENT, LITERALS};
+use weighpick::sheet::{CONTENT_MAX, LITERALS_MAX};
 use weighpick::{
     ColumnError, Columns, Error, Leaf, LeafError, Literal, ParseError, Predicate,
     PredicateOperator, Refusal, Row, RowError, Summary, Transform, Type, Value, ValueError,
@@ -42,10 +42,10 @@ fn a_value_of_another_type_is_an_error_of_its_own() -> Result<(), Error> {
 #[test]
 fn a_long_value_is_an_error_of_its_own() {
     for (fits, literal) in [
-        (true, Literal::binary([0; CONTENT])),
-        (false, Literal::binary([0; CONTENT + 1])),
-        (true, Literal::from("é".repeat(CONTENT / 2).as_str())),
-        (false, Literal::from("a".repeat(CONTENT + 1).as_str())),
+        (true, Literal::binary([0; CONTENT_MAX])),
+        (false, Literal::binary([0; CONTENT_MAX + 1])),
+        (true, Literal::from("é".repeat(CONTENT_MAX / 2).as_str())),
+        (false, Literal::from("a".repeat(CONTENT_MAX + 1).as_str())),
         (false, Literal::binary(vec![0; 1 << 16])),
     ] {
         let column_type = literal.column_type();
@@ -100,12 +100,15 @@ fn the_words_are_those_of_the_error_inside() {
     let parse: Result<Type, ParseError> = "float".parse();
     let errors: [(Error, String); 6] = [
         (
-            LeafError::TooMany(LITERALS).into(),
-            LeafError::TooMany(LITERALS).to_string(),
+            LeafError::TooMany(LITERALS_MAX).into(),
+            LeafError::TooMany(LITERALS_MAX).to_string(),
         ),
         (
-            ValueError::TooLong(CONTENT + 1).into(),
-            format!("a value has {} bytes, at most {CONTENT} fit", CONTENT + 1),
+            ValueError::TooLong(CONTENT_MAX + 1).into(),
+            format!(
+                "a value has {} bytes, at most {CONTENT_MAX} fit",
+                CONTENT_MAX + 1
+            ),
         ),
         (
             ColumnError::Twice("lot".to_string()).into(),

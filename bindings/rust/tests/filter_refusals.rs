@@ -1,9 +1,9 @@
 //! Every refusal of a filter is reached, and they come in document 02's order.
 
 use weighpick::filter::{
-    filter_project, filter_row, filter_strict_project, BRACKETS, LEAVES, TEXT,
+    filter_project, filter_row, filter_strict_project, BRACKETS_MAX, LEAVES_MAX, TEXT_MAX,
 };
-use weighpick::sheet::{CONTENT, RECORD};
+use weighpick::sheet::{CONTENT_MAX, RECORD_SIZE};
 use weighpick::{Columns, Filter, Literal, Refusal, Transform, Type, Value};
 
 /// What the three routines say of a list, a text and values as bytes: of them as a row, and as partition values.
@@ -35,7 +35,7 @@ fn spoilt(at: usize, byte: u8) -> Vec<u8> {
 
 /// Values of which the String is not UTF-8: its letter's second byte is cut off its first.
 fn not_utf8() -> Vec<u8> {
-    spoilt(RECORD + 5, b'a')
+    spoilt(RECORD_SIZE + 5, b'a')
 }
 
 /// What a text over that list is refused with, whatever the question.
@@ -72,17 +72,17 @@ fn malformed() {
     }
     for values in [
         Vec::new(),
-        values[..RECORD].to_vec(), // one value too few
-        values.repeat(2),          // and two too many
+        values[..RECORD_SIZE].to_vec(), // one value too few
+        values.repeat(2),               // and two too many
         values[1..].to_vec(),
-        spoilt(0, 1),              // next
-        spoilt(2, 8),              // the length of an Int
-        spoilt(RECORD + 3, 1),     // a String's length
-        spoilt(2 * RECORD - 1, 1), // content after the length, of a column that no leaf names
+        spoilt(0, 1),                   // next
+        spoilt(2, 8),                   // the length of an Int
+        spoilt(RECORD_SIZE + 3, 1),     // a String's length
+        spoilt(2 * RECORD_SIZE - 1, 1), // content after the length, of a column that no leaf names
     ] {
         assert_eq!(all(list, b"a<1", &values), broken);
         // Before everything that can be said of the text.
-        assert_eq!(all(list, &[b'?'; TEXT + 1], &values), broken);
+        assert_eq!(all(list, &[b'?'; TEXT_MAX + 1], &values), broken);
     }
 }
 
@@ -95,7 +95,7 @@ fn not_utf8_values() {
         assert_eq!(all(list.as_bytes(), text.as_bytes(), &not_utf8()), refused);
     }
     assert_eq!(
-        all(list.as_bytes(), &[b'?'; TEXT + 1], &not_utf8()),
+        all(list.as_bytes(), &[b'?'; TEXT_MAX + 1], &not_utf8()),
         refused
     );
     // After 3, of whichever value.
@@ -108,7 +108,7 @@ fn not_utf8_values() {
 #[test]
 fn outside_the_grammar() {
     let long = |length| format!("s='{}'", "a".repeat(length));
-    assert_eq!(refused(long(CONTENT)), None);
+    assert_eq!(refused(long(CONTENT_MAX)), None);
     let texts = [
         "",
         " ",
@@ -148,7 +148,7 @@ fn outside_the_grammar() {
     for text in texts
         .map(String::from)
         .into_iter()
-        .chain([long(CONTENT + 1)])
+        .chain([long(CONTENT_MAX + 1)])
     {
         assert_eq!(refused(&text), Some(Refusal::OutsideGrammar), "{text}");
     }
@@ -160,30 +160,33 @@ fn outside_the_grammar() {
 #[test]
 fn too_large() {
     let large = Some(Refusal::TooLarge);
-    assert_eq!(refused(of_length(TEXT)), None);
-    assert_eq!(refused(of_length(TEXT + 1)), large);
-    assert_eq!(refused(leaves(LEAVES)), None);
-    assert_eq!(refused(leaves(LEAVES + 1)), large);
-    assert_eq!(refused(bracketed(BRACKETS, "a<1")), None);
-    assert_eq!(refused(bracketed(BRACKETS + 1, "a<1")), large);
+    assert_eq!(refused(of_length(TEXT_MAX)), None);
+    assert_eq!(refused(of_length(TEXT_MAX + 1)), large);
+    assert_eq!(refused(leaves(LEAVES_MAX)), None);
+    assert_eq!(refused(leaves(LEAVES_MAX + 1)), large);
+    assert_eq!(refused(bracketed(BRACKETS_MAX, "a<1")), None);
+    assert_eq!(refused(bracketed(BRACKETS_MAX + 1, "a<1")), large);
     // Open at one place: pairs side by side are not counted together.
-    let side_by_side = vec![bracketed(1, "a<1"); LEAVES].join("or");
+    let side_by_side = vec![bracketed(1, "a<1"); LEAVES_MAX].join("or");
     assert_eq!(refused(&side_by_side), None);
-    let inside = format!("not({})", bracketed(BRACKETS, "a<1"));
+    let inside = format!("not({})", bracketed(BRACKETS_MAX, "a<1"));
     assert_eq!(refused(format!("a<1 and {inside}")), large);
     // Leaves and brackets both.
-    assert_eq!(refused(bracketed(BRACKETS + 1, &leaves(LEAVES + 1))), large);
+    assert_eq!(
+        refused(bracketed(BRACKETS_MAX + 1, &leaves(LEAVES_MAX + 1))),
+        large
+    );
 }
 
 #[test]
 fn ten_for_bytes_comes_before_nine_and_nine_before_the_other_two() {
     let outside = Some(Refusal::OutsideGrammar);
-    assert_eq!(refused([b'?'; TEXT]), outside);
-    assert_eq!(refused([b'?'; TEXT + 1]), Some(Refusal::TooLarge));
-    assert_eq!(refused(leaves(LEAVES + 1) + "?"), outside);
-    assert_eq!(refused(bracketed(BRACKETS + 1, "x<1")), outside);
-    assert_eq!(refused(bracketed(BRACKETS + 1, "a<1") + ")"), outside);
-    assert_eq!(refused("(".repeat(BRACKETS + 1) + "a<1"), outside);
+    assert_eq!(refused([b'?'; TEXT_MAX]), outside);
+    assert_eq!(refused([b'?'; TEXT_MAX + 1]), Some(Refusal::TooLarge));
+    assert_eq!(refused(leaves(LEAVES_MAX + 1) + "?"), outside);
+    assert_eq!(refused(bracketed(BRACKETS_MAX + 1, "x<1")), outside);
+    assert_eq!(refused(bracketed(BRACKETS_MAX + 1, "a<1") + ")"), outside);
+    assert_eq!(refused("(".repeat(BRACKETS_MAX + 1) + "a<1"), outside);
 }
 
 /// What both questions say of partition values of a list with one column `x`; and a row is not refused.
@@ -303,8 +306,8 @@ fn the_leftmost_refusal_counts_also_where_the_others_decide() {
         assert_eq!(filter.row(&row), Ok(false), "{text}");
     }
     // 9 and 10 come before 5 to 8.
-    let many = format!("seven<1 or {}", leaves(LEAVES));
-    let deep = format!("seven<1 or {}", bracketed(BRACKETS + 1, "a<1"));
+    let many = format!("seven<1 or {}", leaves(LEAVES_MAX));
+    let deep = format!("seven<1 or {}", bracketed(BRACKETS_MAX + 1, "a<1"));
     for (text, expected) in [
         ("seven<1 or x<1", Refusal::OutsideGrammar),
         (&many, Refusal::TooLarge),

@@ -6,7 +6,7 @@ use support::filters::Sample;
 use support::meets::meets;
 use support::older::filings;
 use support::sample::Random;
-use weighpick::filter::LEAVES;
+use weighpick::filter::LEAVES_MAX;
 use weighpick::{Filter, Leaf, Pick, Predicate, Refusal, Value};
 
 /// How many filters are tried.
@@ -23,7 +23,7 @@ fn samples(seed: u64) -> impl Iterator<Item = (Sample, Vec<Value>)> {
         let row = random.row_for(&sample);
         (sample, row)
     });
-    all.filter(|(sample, _)| sample.tree.leaves().len() <= LEAVES)
+    all.filter(|(sample, _)| sample.tree.leaves().len() <= LEAVES_MAX)
         .take(FILTERS)
 }
 

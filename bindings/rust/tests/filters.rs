@@ -257,6 +257,6 @@ fn a_check_needs_no_values() {
     assert_eq!(lowest.check(), Ok(()));
     let undeclared = Filter::new(&columns, "lots < 'a'");
     assert_eq!(undeclared.check(), Err(Refusal::OutsideGrammar));
-    let longer = Filter::new(&columns, &[b' '; weighpick::filter::TEXT + 1]).check();
+    let longer = Filter::new(&columns, &[b' '; weighpick::filter::TEXT_MAX + 1]).check();
     assert_eq!(longer, Err(Refusal::TooLarge));
 }

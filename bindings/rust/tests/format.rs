@@ -1,13 +1,14 @@
 //! The sizes of `docs/FORMAT.md`, and its examples, with the bytes and the texts that stand there.
 
 use weighpick::filter::{
-    filter_project, filter_row, filter_strict_project, BRACKETS, COLUMN, COLUMNS, LEAVES, NAME,
-    TEXT,
+    filter_project, filter_row, filter_strict_project, BRACKETS_MAX, COLUMNS_MAX, COLUMN_SIZE,
+    LEAVES_MAX, NAME_SIZE, TEXT_MAX,
 };
 use weighpick::sheet::{
-    holds, project_into, ANSWER_LITERALS, CONTENT, LITERALS, RECORD, SHEET_BUFFER, VALUE_BUFFER,
+    holds, project_into, ANSWER_LITERALS_MAX, CONTENT_MAX, LITERALS_MAX, RECORD_SIZE, SHEET_BUFFER,
+    VALUE_BUFFER,
 };
-use weighpick::summary::{test_summary, SUMMARY, VERDICT_BUFFER};
+use weighpick::summary::{test_summary, SUMMARY_SIZE, VERDICT_BUFFER};
 use weighpick::{Columns, Filter, Leaf, Predicate, Refusal, Summary, Transform, Type, Verdict};
 
 const PAGE: &str = include_str!("../../../docs/FORMAT.md");
@@ -20,7 +21,7 @@ fn section(heading: &str) -> impl Iterator<Item = &'static str> {
 }
 
 /// The records of an example, in their order; bytes that are not shown are zero.
-fn records(heading: &str) -> Vec<[u8; RECORD]> {
+fn records(heading: &str) -> Vec<[u8; RECORD_SIZE]> {
     let lines = section(heading).filter_map(|line| {
         let line = line.strip_prefix("    ")?;
         // What it is stands before two spaces, and the bytes are pairs of digits up to the words behind them.
@@ -30,7 +31,7 @@ fn records(heading: &str) -> Vec<[u8; RECORD]> {
     });
     lines
         .map(|bytes| {
-            let mut record = [0; RECORD];
+            let mut record = [0; RECORD_SIZE];
             record
                 .iter_mut()
                 .zip(bytes)
@@ -55,34 +56,37 @@ fn in_numerals(size: usize) -> String {
 /// The page has sizes in numerals, for readers; this holds them to the constants.
 #[test]
 fn the_sizes() {
-    let (buffer, text) = (in_numerals(SHEET_BUFFER), in_numerals(TEXT));
-    let leaf = format!("| 1 to {} | up to {LITERALS} |", 1 + LITERALS);
-    let answer = format!("| 1 to {} | up to {ANSWER_LITERALS} |", 1 + ANSWER_LITERALS);
+    let (buffer, text) = (in_numerals(SHEET_BUFFER), in_numerals(TEXT_MAX));
+    let leaf = format!("| 1 to {} | up to {LITERALS_MAX} |", 1 + LITERALS_MAX);
+    let answer = format!(
+        "| 1 to {} | up to {ANSWER_LITERALS_MAX} |",
+        1 + ANSWER_LITERALS_MAX
+    );
     let sizes = [
         format!("fewer than {buffer} bytes, or fewer than {VALUE_BUFFER} for a value or {VERDICT_BUFFER} for a verdict"),
         format!(
-            "{text} bytes, or the filter more than {LEAVES} leaves or {BRACKETS} open brackets"
+            "{text} bytes, or the filter more than {LEAVES_MAX} leaves or {BRACKETS_MAX} open brackets"
         ),
-        format!("records of {RECORD} bytes"),
-        format!("| {} to {} | content", RECORD - CONTENT, RECORD - 1),
+        format!("records of {RECORD_SIZE} bytes"),
+        format!("| {} to {} | content", RECORD_SIZE - CONTENT_MAX, RECORD_SIZE - 1),
         format!("| to be projected {leaf}"),
         format!("| for the holds-test {answer}"),
         format!("| as an answer {answer}"),
-        format!("| String | 0 to {CONTENT} |"),
-        format!("| Binary | 0 to {CONTENT} |"),
-        format!("with the count {} and writes", 2 * RECORD),
-        format!("A column list is 1 to {COLUMNS} entries of {COLUMN} bytes"),
-        format!("| 0 to {} | name: 1 to {NAME} of the letters", NAME - 1),
-        format!("| {NAME} to {} | a head", COLUMN - 1),
-        format!("String and Binary, has at most {CONTENT} bytes"),
+        format!("| String | 0 to {CONTENT_MAX} |"),
+        format!("| Binary | 0 to {CONTENT_MAX} |"),
+        format!("with the count {} and writes", 2 * RECORD_SIZE),
+        format!("A column list is 1 to {COLUMNS_MAX} entries of {COLUMN_SIZE} bytes"),
+        format!("| 0 to {} | name: 1 to {NAME_SIZE} of the letters", NAME_SIZE - 1),
+        format!("| {NAME_SIZE} to {} | a head", COLUMN_SIZE - 1),
+        format!("String and Binary, has at most {CONTENT_MAX} bytes"),
         format!("more than {text} bytes is 10"),
-        format!("more than {LEAVES} leaves, or at some place more than {BRACKETS} brackets open"),
-        format!("It has {SUMMARY} bytes"),
-        format!("| 0 to {} | a value: the lowest", RECORD - 1),
-        format!("| {RECORD} to {} | a value: the highest", 2 * RECORD - 1),
-        format!("| {} | the type of both", SUMMARY - 2),
-        format!("| {} | flag", SUMMARY - 1),
-        format!("as the holds-test does, with up to {ANSWER_LITERALS} literals"),
+        format!("more than {LEAVES_MAX} leaves, or at some place more than {BRACKETS_MAX} brackets open"),
+        format!("It has {SUMMARY_SIZE} bytes"),
+        format!("| 0 to {} | a value: the lowest", RECORD_SIZE - 1),
+        format!("| {RECORD_SIZE} to {} | a value: the highest", 2 * RECORD_SIZE - 1),
+        format!("| {} | the type of both", SUMMARY_SIZE - 2),
+        format!("| {} | flag", SUMMARY_SIZE - 1),
+        format!("as the holds-test does, with up to {ANSWER_LITERALS_MAX} literals"),
     ];
     let page = PAGE.split_whitespace().collect::<Vec<_>>().join(" ");
     for size in sizes {
@@ -116,7 +120,7 @@ fn the_example_of_a_filter() {
     else {
         panic!("eight records, and not {}", records.len());
     };
-    let list = [&lot[..NAME], lot_head, &grams[..NAME], grams_head].concat();
+    let list = [&lot[..NAME_SIZE], lot_head, &grams[..NAME_SIZE], grams_head].concat();
     let columns = Columns::from_bytes(&list).expect("a column list");
     assert!(columns.iter().eq([
         ("lot", Type::String, Transform::Truncate(4)),

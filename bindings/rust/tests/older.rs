@@ -6,7 +6,7 @@ use support::meets::compare;
 use support::older::{lifted, next};
 use support::sample::Random;
 use support::{answers, said};
-use weighpick::sheet::{ANSWER_LITERALS, LITERALS, SHEET_BUFFER};
+use weighpick::sheet::{ANSWER_LITERALS_MAX, LITERALS_MAX, SHEET_BUFFER};
 use weighpick::{
     Columns, Error, Filter, Leaf, Literal, Pick, PredicateOperator, Refusal, Transform, Type,
 };
@@ -122,7 +122,7 @@ fn without_a_predicate_and_refused() {
 /// As many literals as an answer sheet holds: each of the days stands alone, and gains the next.
 #[test]
 fn the_largest_answer() {
-    let days = (0..LITERALS as i64).map(|n| Literal::Timestamp((-1 - 2 * n) * MICROS_PER_DAY));
+    let days = (0..LITERALS_MAX as i64).map(|n| Literal::Timestamp((-1 - 2 * n) * MICROS_PER_DAY));
     let days: Vec<Literal> = days.collect();
     let leaf = Leaf::set(
         PredicateOperator::NotIn,
@@ -134,14 +134,14 @@ fn the_largest_answer() {
         .expect("as many as a sheet takes")
         .strict_project_older();
     let older = older.expect("no refusal").expect("NotIn has one");
-    assert_eq!(older.literals().len(), ANSWER_LITERALS);
+    assert_eq!(older.literals().len(), ANSWER_LITERALS_MAX);
     assert_eq!(older.as_bytes().len(), SHEET_BUFFER);
-    let all = (1 - ANSWER_LITERALS as i32..=0).map(Literal::Date);
+    let all = (1 - ANSWER_LITERALS_MAX as i32..=0).map(Literal::Date);
     assert!(older.literals().eq(all.clone()));
     assert!(all
         .map(Into::into)
         .all(|day| older.holds(&day) == Ok(false)));
-    for outside in [-(ANSWER_LITERALS as i32), 1] {
+    for outside in [-(ANSWER_LITERALS_MAX as i32), 1] {
         assert_eq!(older.holds(&Literal::Date(outside).into()), Ok(true));
     }
 }

@@ -6,7 +6,7 @@ use support::files::{file, file_in_text, file_of, files_in, worlds};
 use support::meets::compare;
 use support::number;
 use support::sample::Random;
-use weighpick::sheet::RECORD;
+use weighpick::sheet::RECORD_SIZE;
 use weighpick::summary::{pool, Whose};
 use weighpick::{Error, Literal, Refusal, Summary, Type, Value};
 
@@ -64,8 +64,8 @@ fn in_words() {
 fn whose(first: &Summary, second: &Summary) -> (Whose, Whose) {
     let summaries = [first.as_bytes(), second.as_bytes()];
     let pooled = pool(summaries[0], summaries[1]).expect("two summaries of one type");
-    for (end, at) in [(pooled.lowest, 0), (pooled.highest, RECORD)] {
-        let part = &summaries[end.whose as usize][at..][..RECORD];
+    for (end, at) in [(pooled.lowest, 0), (pooled.highest, RECORD_SIZE)] {
+        let part = &summaries[end.whose as usize][at..][..RECORD_SIZE];
         assert!(std::ptr::eq(part, &end.record[..]), "{first} and {second}");
     }
     (pooled.lowest.whose, pooled.highest.whose)

@@ -3,8 +3,8 @@
 mod support;
 
 use support::files::{answer, file_in_text, sheet, with, FLAG_AT, TYPE_AT};
-use weighpick::sheet::RECORD;
-use weighpick::summary::{pool, SUMMARY};
+use weighpick::sheet::RECORD_SIZE;
+use weighpick::summary::{pool, SUMMARY_SIZE};
 use weighpick::{Refusal, Summary, Type};
 
 /// The refusal of two summaries, if they are refused.
@@ -14,7 +14,7 @@ fn refusal(first: &[u8], second: &[u8]) -> Option<Refusal> {
 
 /// A content of one byte which stands for no character, in one of the records.
 fn no_text(bytes: Vec<u8>, record: usize) -> Vec<u8> {
-    with(bytes, RECORD * record + 4, 0xff)
+    with(bytes, RECORD_SIZE * record + 4, 0xff)
 }
 
 #[test]
@@ -72,13 +72,13 @@ fn different_types() {
 fn other_sizes() {
     let file = file_in_text("int 1 to 2");
     let long = [&file[..], &[0; 200]].concat();
-    for size in (0..long.len()).filter(|&size| size != SUMMARY) {
+    for size in (0..long.len()).filter(|&size| size != SUMMARY_SIZE) {
         let other = &long[..size];
         for (first, second) in [(&file[..], other), (other, &file), (other, other)] {
             assert_eq!(refusal(first, second), Some(Refusal::Malformed), "{size}");
         }
     }
-    assert_eq!(refusal(&file, &long[..SUMMARY]), None);
+    assert_eq!(refusal(&file, &long[..SUMMARY_SIZE]), None);
 }
 
 /// The refusal of one summary by itself, as its test by a leaf of its own type answers it.
@@ -101,7 +101,8 @@ fn every_byte() {
         "string missing",
     ] {
         let file = file_in_text(text);
-        for (at, byte) in (0..SUMMARY).flat_map(|at| (0..=u8::MAX).map(move |byte| (at, byte))) {
+        for (at, byte) in (0..SUMMARY_SIZE).flat_map(|at| (0..=u8::MAX).map(move |byte| (at, byte)))
+        {
             let damaged = with(file.clone(), at, byte);
             let alone = by_itself(&damaged);
             for other in &others {

@@ -5,7 +5,7 @@ mod support;
 use support::{answers, BEFORE};
 use weighpick::sheet::{
     holds, project_into, strict_project_into, strict_project_older_into, transform_into, Record,
-    LARGEST_SHEET, RECORD, SHEET_BUFFER, VALUE_BUFFER,
+    RECORD_SIZE, SHEET_BUFFER, SHEET_MAX, VALUE_BUFFER,
 };
 use weighpick::{Leaf, Literal, PredicateOperator, Refusal, Transform, Type, Value};
 
@@ -66,21 +66,21 @@ fn spoilt(at: usize, byte: u8) -> Vec<u8> {
 #[test]
 fn malformed_sheet() {
     let mut longer = sample();
-    longer.resize(LARGEST_SHEET + RECORD, 0);
+    longer.resize(SHEET_MAX + RECORD_SIZE, 0);
     let sheets = [
         Vec::new(),
-        sample()[..RECORD - 1].to_vec(),
-        sample()[..RECORD].to_vec(), // next beyond the last record
+        sample()[..RECORD_SIZE - 1].to_vec(),
+        sample()[..RECORD_SIZE].to_vec(), // next beyond the last record
         longer,
-        spoilt(0, 0),           // no literal
-        spoilt(2, 0),           // operator
-        spoilt(4, 11),          // type
-        spoilt(5, 8),           // transform
-        spoilt(5, 0),           // a width without Truncate
-        spoilt(12, 1),          // reserved
-        spoilt(RECORD, 1),      // next that does not rise
-        spoilt(RECORD + 2, 5),  // length
-        spoilt(RECORD + 10, 1), // content after the length
+        spoilt(0, 0),                // no literal
+        spoilt(2, 0),                // operator
+        spoilt(4, 11),               // type
+        spoilt(5, 8),                // transform
+        spoilt(5, 0),                // a width without Truncate
+        spoilt(12, 1),               // reserved
+        spoilt(RECORD_SIZE, 1),      // next that does not rise
+        spoilt(RECORD_SIZE + 2, 5),  // length
+        spoilt(RECORD_SIZE + 10, 1), // content after the length
     ];
     for malformed in sheets {
         let refused = [Refusal::Malformed; 3].map(Err);
@@ -94,8 +94,8 @@ fn malformed_value() {
     let mut next = whole;
     next[0] = 1;
     let mut filled = record(Value::Missing, Type::Int);
-    filled[RECORD - 1] = 1;
-    for malformed in [&[], &whole[..RECORD - 1], &next[..], &filled[..]] {
+    filled[RECORD_SIZE - 1] = 1;
+    for malformed in [&[], &whole[..RECORD_SIZE - 1], &next[..], &filled[..]] {
         let refused = transform_refusal(Transform::Identity, Type::Int, malformed);
         assert_eq!(refused, Some(Refusal::Malformed));
         assert_eq!(holds(&sample(), malformed), Err(Refusal::Malformed));
@@ -110,7 +110,7 @@ fn not_utf8() {
     assert_eq!(holds(&sheet, &missing), Ok(false));
     let mut value = record(text, Type::String);
     // Cuts the letter's second byte off its first.
-    sheet[RECORD + 5] = b'a';
+    sheet[RECORD_SIZE + 5] = b'a';
     value[5] = b'a';
     assert_eq!(answers(&sheet), [Refusal::NotUtf8; 3].map(Err));
     assert_eq!(holds(&sheet, &missing), Err(Refusal::NotUtf8));
@@ -168,7 +168,7 @@ fn no_predicate_leaves_the_buffer_too() {
 #[test]
 fn a_result_leaves_the_bytes_behind_it() {
     let sizes = answers(&sample()).map(|answer| answer.map(|found| found.map(|bytes| bytes.len())));
-    assert_eq!(sizes, [Ok(Some(2 * RECORD)); 3]);
+    assert_eq!(sizes, [Ok(Some(2 * RECORD_SIZE)); 3]);
     let value = record(Literal::Int(287), Type::Int);
     let mut out = [BEFORE; 2 * VALUE_BUFFER];
     let written = transform_into(Transform::Truncate(10), Type::Int, &value, &mut out);

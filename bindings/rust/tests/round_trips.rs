@@ -4,7 +4,7 @@ mod support;
 
 use support::sample::Random;
 use support::{answers, TRANSFORMS};
-use weighpick::sheet::{project_into, Sheet, RECORD, SHEET_BUFFER};
+use weighpick::sheet::{project_into, Sheet, RECORD_SIZE, SHEET_BUFFER};
 use weighpick::summary::Whose;
 use weighpick::{Leaf, Literal, Predicate, PredicateOperator, Refusal, Transform, Type, Value};
 
@@ -46,9 +46,9 @@ fn result_types_are_the_library_s() {
 
 #[test]
 fn the_bytes_of_the_sample_sheet() {
-    let mut bytes = [0; 2 * RECORD];
+    let mut bytes = [0; 2 * RECORD_SIZE];
     bytes[..10].copy_from_slice(&[1, 0, 201, 0, 1, 1, 0, 0, 10, 0]);
-    bytes[RECORD..][..6].copy_from_slice(&[0, 0, 4, 0, 44, 1]);
+    bytes[RECORD_SIZE..][..6].copy_from_slice(&[0, 0, 4, 0, 44, 1]);
     let (operator, transform) = (PredicateOperator::LessThan, Transform::Truncate(10));
     let leaf = Leaf::binary(operator, transform, &Literal::Int(300)).expect("an Int");
     assert_eq!(leaf.as_bytes(), bytes);
@@ -108,8 +108,8 @@ fn records_off_the_chain_are_left_out() {
     };
     let mut bytes = set(&[&first, &off, &last]).as_bytes().to_vec();
     // The first literal's next goes past the second, which nothing then looks at.
-    bytes[RECORD] = 3;
-    bytes[2 * RECORD + 2] = 0xff;
+    bytes[RECORD_SIZE] = 3;
+    bytes[2 * RECORD_SIZE + 2] = 0xff;
     let read = Leaf::from_bytes(&bytes).expect("a well-formed sheet");
     assert_eq!(read, set(&[&first, &last]));
     assert_eq!(answers(&bytes), answers(read.as_bytes()));
@@ -144,7 +144,7 @@ fn damaged_sheets_are_read_as_the_library_reads_them() {
     for _ in 0..LEAVES {
         let mut bytes = random.leaf().as_bytes().to_vec();
         // Most of what matters lies at the start of a record.
-        let at = RECORD * random.below(bytes.len() / RECORD) + random.below(16);
+        let at = RECORD_SIZE * random.below(bytes.len() / RECORD_SIZE) + random.below(16);
         bytes[at] = random.pick(&[0, 1, 2, 7, 0x80, 0xc3, 0xff]);
         let mut out = [0; SHEET_BUFFER];
         let answer = project_into(&bytes, &mut out).map(|found| found.map(<[u8]>::to_vec));

@@ -2,7 +2,7 @@
 
 use std::thread;
 
-use weighpick::filter::{BRACKETS, TEXT};
+use weighpick::filter::{BRACKETS_MAX, TEXT_MAX};
 use weighpick::{Columns, Filter, Literal, Pick, Refusal, Transform, Type};
 
 /// A small thread's stack, in bytes.
@@ -25,18 +25,18 @@ fn answer(text: String) -> (Result<bool, Refusal>, Pick) {
 #[test]
 fn brackets_that_stay_open() {
     let expected = (Err(Refusal::OutsideGrammar), Pick::Filter);
-    assert_eq!(answer("(".repeat(TEXT)), expected);
-    assert_eq!(answer("not(".repeat(TEXT / 4)), expected);
+    assert_eq!(answer("(".repeat(TEXT_MAX)), expected);
+    assert_eq!(answer("not(".repeat(TEXT_MAX / 4)), expected);
 }
 
 #[test]
 fn brackets_in_brackets() {
     let nested = |count| format!("{}a<5{}", "(".repeat(count), ")".repeat(count));
-    assert_eq!(answer(nested(BRACKETS)), (Ok(true), Pick::Filter));
+    assert_eq!(answer(nested(BRACKETS_MAX)), (Ok(true), Pick::Filter));
     let large = (Err(Refusal::TooLarge), Pick::Filter);
-    assert_eq!(answer(nested(BRACKETS + 1)), large);
+    assert_eq!(answer(nested(BRACKETS_MAX + 1)), large);
     // As many as a text has room for.
-    assert_eq!(answer(nested((TEXT - 3) / 2)), large);
+    assert_eq!(answer(nested((TEXT_MAX - 3) / 2)), large);
 }
 
 #[test]
@@ -53,6 +53,6 @@ fn words_in_a_row() {
 
 #[test]
 fn long_literals() {
-    let zeros = format!("a<{}10", "0".repeat(TEXT - 4));
+    let zeros = format!("a<{}10", "0".repeat(TEXT_MAX - 4));
     assert_eq!(answer(zeros), (Ok(true), Pick::Whole));
 }

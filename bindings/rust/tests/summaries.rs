@@ -4,7 +4,7 @@ mod support;
 
 use support::files::{all_ends, file, file_of};
 use support::sample::Random;
-use weighpick::sheet::CONTENT;
+use weighpick::sheet::CONTENT_MAX;
 use weighpick::{Literal, Summary, Type, Value, ValueError};
 
 #[test]
@@ -70,11 +70,11 @@ fn texts() {
 fn ends_are_of_one_type_and_fit() {
     let wrong = Summary::between(&Literal::Int(1), &Literal::Date(2));
     assert_eq!(wrong, Err(ValueError::WrongType(Type::Int, Type::Date)));
-    let long = Literal::binary([0; CONTENT + 1]);
-    let short = Literal::binary([0; CONTENT]);
+    let long = Literal::binary([0; CONTENT_MAX + 1]);
+    let short = Literal::binary([0; CONTENT_MAX]);
     for (lowest, highest) in [(&short, &long), (&long, &short)] {
         let wrong = Summary::between(lowest, highest);
-        assert_eq!(wrong, Err(ValueError::TooLong(CONTENT + 1)));
+        assert_eq!(wrong, Err(ValueError::TooLong(CONTENT_MAX + 1)));
     }
     assert!(Summary::between(&short, &short).is_ok());
 }

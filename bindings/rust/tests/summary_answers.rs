@@ -4,8 +4,8 @@ mod support;
 
 use support::files::{answer, file_in_text, sheet, with, FLAG_AT};
 use support::BEFORE;
-use weighpick::sheet::{Sheet, ANSWER_LITERALS, CONTENT, RECORD};
-use weighpick::summary::{test_summary_into, SUMMARY};
+use weighpick::sheet::{Sheet, ANSWER_LITERALS_MAX, CONTENT_MAX, RECORD_SIZE};
+use weighpick::summary::{test_summary_into, SUMMARY_SIZE};
 use weighpick::{Literal, PredicateOperator, Refusal, Summary, Transform, Type, Value, Verdict};
 
 #[test]
@@ -32,11 +32,15 @@ fn the_order_of_the_answers() {
         file_in_text("string \"b\" to \"a\""),
     );
     // A content of one byte, which stands for no character.
-    let no_text = |bytes: &[u8], record: usize| with(bytes.to_vec(), RECORD * record + 4, 0xff);
+    let no_text =
+        |bytes: &[u8], record: usize| with(bytes.to_vec(), RECORD_SIZE * record + 4, 0xff);
     // 3 of the sheet, then of the summary, comes before 4 and 11.
-    assert_eq!(answer(&int[..RECORD], &turned), Err(Refusal::Malformed));
     assert_eq!(
-        answer(&no_text(&a, 1)[..RECORD], &no_text(&texts, 0)),
+        answer(&int[..RECORD_SIZE], &turned),
+        Err(Refusal::Malformed)
+    );
+    assert_eq!(
+        answer(&no_text(&a, 1)[..RECORD_SIZE], &no_text(&texts, 0)),
         Err(Refusal::Malformed)
     );
     assert_eq!(
@@ -89,28 +93,28 @@ fn a_type_that_is_not_the_sheet_s() {
 fn other_sizes() {
     let int = sheet("int identity < 3");
     let long = [file_in_text("int 1 to 2"), vec![0; 200]].concat();
-    for size in (0..long.len()).filter(|&size| size != SUMMARY) {
+    for size in (0..long.len()).filter(|&size| size != SUMMARY_SIZE) {
         assert_eq!(
             answer(&int, &long[..size]),
             Err(Refusal::Malformed),
             "{size}"
         );
     }
-    assert_eq!(answer(&int, &long[..SUMMARY]), Ok(Verdict::Whole));
+    assert_eq!(answer(&int, &long[..SUMMARY_SIZE]), Ok(Verdict::Whole));
 }
 
 /// 02: "a sheet as for the holds-test": of up to 128 literals, and transform and width are not looked at.
 #[test]
 fn a_sheet_as_for_the_holds_test() {
     let mut largest = Sheet::new(PredicateOperator::In, Type::Int, Transform::Identity);
-    for n in 0..ANSWER_LITERALS as i32 {
+    for n in 0..ANSWER_LITERALS_MAX as i32 {
         largest.push(&Literal::Int(n)).expect("an Int");
     }
     assert_eq!(
         answer(largest.as_bytes(), &file_in_text("int 0 to 127")),
         Ok(Verdict::Whole)
     );
-    let larger = [largest.as_bytes(), &[0; RECORD]].concat();
+    let larger = [largest.as_bytes(), &[0; RECORD_SIZE]].concat();
     assert_eq!(
         answer(&larger, &file_in_text("int 0 to 127")),
         Err(Refusal::Malformed)
@@ -122,11 +126,11 @@ fn a_sheet_as_for_the_holds_test() {
             Ok(Verdict::Read)
         );
     }
-    let longest = Literal::binary([b'a'; CONTENT]);
+    let longest = Literal::binary([b'a'; CONTENT_MAX]);
     let record = Value::from(longest.clone()).to_record(Type::Binary);
     let file = Summary::between(&longest, &longest).expect("as long as a record's content");
     assert_eq!(
-        Ok(&file.as_bytes()[..RECORD]),
+        Ok(&file.as_bytes()[..RECORD_SIZE]),
         record.as_ref().map(|r| &r[..])
     );
     assert_eq!(

@@ -7,7 +7,7 @@ use std::str::FromStr;
 
 use support::sample::Random;
 use support::TRANSFORMS;
-use weighpick::sheet::{ANSWER_LITERALS, CONTENT, LITERALS};
+use weighpick::sheet::{ANSWER_LITERALS_MAX, CONTENT_MAX, LITERALS_MAX};
 use weighpick::{Leaf, Literal, Predicate, PredicateOperator, Transform, Type, Value};
 
 /// How many leaves are tried.
@@ -175,14 +175,17 @@ fn what_is_no_leaf() {
         wrong::<Leaf>("int week = 1"),
         Some("`week` is no transform".to_string())
     );
-    let long = format!("string identity = \"{}\"", "a".repeat(CONTENT + 1));
-    let expected = format!("a literal has {} bytes, at most {CONTENT} fit", CONTENT + 1);
+    let long = format!("string identity = \"{}\"", "a".repeat(CONTENT_MAX + 1));
+    let expected = format!(
+        "a literal has {} bytes, at most {CONTENT_MAX} fit",
+        CONTENT_MAX + 1
+    );
     assert_eq!(wrong::<Leaf>(&long), Some(expected));
 }
 
 #[test]
 fn a_predicate_takes_more_literals_than_a_leaf() {
-    let numbers: Vec<String> = (0..=ANSWER_LITERALS).map(|n| n.to_string()).collect();
+    let numbers: Vec<String> = (0..=ANSWER_LITERALS_MAX).map(|n| n.to_string()).collect();
     let set = |count: usize| format!("int IN ({})", numbers[..count].join(", "));
     let of_leaf = |count| {
         set(count)
@@ -190,7 +193,7 @@ fn a_predicate_takes_more_literals_than_a_leaf() {
             .parse::<Leaf>()
             .is_ok()
     };
-    assert!(of_leaf(LITERALS) && !of_leaf(LITERALS + 1));
+    assert!(of_leaf(LITERALS_MAX) && !of_leaf(LITERALS_MAX + 1));
     let of_predicate = |count| set(count).parse::<Predicate>().is_ok();
-    assert!(of_predicate(ANSWER_LITERALS) && !of_predicate(ANSWER_LITERALS + 1));
+    assert!(of_predicate(ANSWER_LITERALS_MAX) && !of_predicate(ANSWER_LITERALS_MAX + 1));
 }

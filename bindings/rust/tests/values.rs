@@ -5,7 +5,7 @@ mod support;
 use support::sample::Random;
 use support::TRANSFORMS;
 use weighpick::filter::{filter_project, filter_row};
-use weighpick::sheet::{Record, CONTENT, RECORD};
+use weighpick::sheet::{Record, CONTENT_MAX, RECORD_SIZE};
 use weighpick::{
     Columns, Filter, Literal, Pick, Refusal, RowError, Transform, Type, Value, ValueError,
 };
@@ -70,16 +70,16 @@ fn values_of_the_wrong_type() {
 fn values_that_are_too_long() {
     let columns = Columns::new([("lot", Type::String, Transform::Identity)]).expect("a column");
     let row = |length| columns.row(&[Value::from("a".repeat(length).as_str())]);
-    assert!(row(CONTENT).is_ok());
-    let expected = RowError::Value("lot".to_string(), ValueError::TooLong(CONTENT + 1));
-    assert_eq!(row(CONTENT + 1), Err(expected));
+    assert!(row(CONTENT_MAX).is_ok());
+    let expected = RowError::Value("lot".to_string(), ValueError::TooLong(CONTENT_MAX + 1));
+    assert_eq!(row(CONTENT_MAX + 1), Err(expected));
 }
 
 /// A value of a type; a binary is not UTF-8, and it and a string are longer than a number.
 fn of_type(value_type: Type) -> Value {
     match value_type {
-        Type::String => Value::from("a".repeat(CONTENT).as_str()),
-        Type::Binary => Literal::binary([0xff; CONTENT]).into(),
+        Type::String => Value::from("a".repeat(CONTENT_MAX).as_str()),
+        Type::Binary => Literal::binary([0xff; CONTENT_MAX]).into(),
         number => Random::new(13).literal(number).into(),
     }
 }
@@ -88,7 +88,7 @@ fn of_type(value_type: Type) -> Value {
 /// numbers, and UTF-8.
 fn by_its_bytes(asked: Type, record: &Record) -> Refusal {
     let length = |record: &Record| usize::from(record[2]);
-    let content = &record[RECORD - CONTENT..][..length(record)];
+    let content = &record[RECORD_SIZE - CONTENT_MAX..][..length(record)];
     let one = of_type(asked)
         .to_record(asked)
         .expect("a value of its type");

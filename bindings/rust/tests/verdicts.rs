@@ -6,7 +6,7 @@ use support::files::{all_ends, file, subsets};
 use support::meets::{compare, meets};
 use support::sample::Random;
 use support::{leaves_of, number, number_of, windows};
-use weighpick::sheet::{Sheet, ANSWER_LITERALS};
+use weighpick::sheet::{Sheet, ANSWER_LITERALS_MAX};
 use weighpick::summary::test_summary;
 use weighpick::{Leaf, Literal, PredicateOperator, Summary, Transform, Type, Value, Verdict};
 
@@ -123,7 +123,7 @@ fn of_sets(numbers: &[i64], low: i64, high: i64) -> [Verdict; 2] {
 #[test]
 fn sets_that_fill_the_ends() {
     use Verdict::{Read, Skip, Whole};
-    let most = ANSWER_LITERALS as i64;
+    let most = ANSWER_LITERALS_MAX as i64;
     for start in [i64::MIN, -most / 2, i64::MAX - (most - 1)] {
         let end = start + (most - 1);
         // Not ascending: the odd ones downwards, then the even ones.

@@ -1,6 +1,6 @@
 //! What the words say, and what is printed for them.
 
-use weighpick::sheet::{CONTENT, LITERALS};
+use weighpick::sheet::{CONTENT_MAX, LITERALS_MAX};
 
 use super::ask_for_help;
 use super::filter::asked;
@@ -89,11 +89,14 @@ fn wrong_words_are_named() {
 
 #[test]
 fn limits_are_named() {
-    let long = format!("string identity = {}", "a".repeat(CONTENT + 1));
-    let expected = format!("a literal has {} bytes, at most {CONTENT} fit", CONTENT + 1);
+    let long = format!("string identity = {}", "a".repeat(CONTENT_MAX + 1));
+    let expected = format!(
+        "a literal has {} bytes, at most {CONTENT_MAX} fit",
+        CONTENT_MAX + 1
+    );
     assert_eq!(wrong(&long), expected);
-    let many = format!("int identity in {}", "7 ".repeat(LITERALS + 1));
-    assert_eq!(wrong(&many), format!("more than {LITERALS} literals"));
+    let many = format!("int identity in {}", "7 ".repeat(LITERALS_MAX + 1));
+    assert_eq!(wrong(&many), format!("more than {LITERALS_MAX} literals"));
 }
 
 #[test]
@@ -184,10 +187,10 @@ fn wrong_words_of_a_filter_are_named() {
     assert_eq!(wrong("a<1", "a=int:identity -- 1 2"), two);
     let number = "`x` is no number, or none that fits";
     assert_eq!(wrong("a<1", "a=int:identity -- x"), number);
-    let long = format!("s=string:identity -- {}", "a".repeat(CONTENT + 1));
+    let long = format!("s=string:identity -- {}", "a".repeat(CONTENT_MAX + 1));
     let expected = format!(
-        "`s`: a value has {} bytes, at most {CONTENT} fit",
-        CONTENT + 1
+        "`s`: a value has {} bytes, at most {CONTENT_MAX} fit",
+        CONTENT_MAX + 1
     );
     assert_eq!(wrong("s=''", &long), expected);
 }

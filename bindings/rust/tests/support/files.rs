@@ -2,7 +2,7 @@
 
 use std::slice;
 
-use weighpick::sheet::RECORD;
+use weighpick::sheet::RECORD_SIZE;
 use weighpick::summary::test_summary_into;
 use weighpick::{Leaf, Literal, Refusal, Summary, Type, Value, Verdict};
 
@@ -13,7 +13,7 @@ use super::{windows, BEFORE};
 const WORLD: i64 = 5;
 
 /// Where type and flag of a summary stand, behind two records.
-pub const TYPE_AT: usize = 2 * RECORD;
+pub const TYPE_AT: usize = 2 * RECORD_SIZE;
 pub const FLAG_AT: usize = TYPE_AT + 1;
 
 /// The summary of a file: present values from the first to the second, or none, and whether a missing one occurs.
