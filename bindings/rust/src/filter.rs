@@ -4,5 +4,5 @@
 //! repository says what each byte of a list and of a value is, and what a text has to be.
 
 pub use crate::columns::{COLUMNS_MAX, COLUMN_SIZE, NAME_SIZE};
-pub use crate::filters::{BRACKETS_MAX, LEAVES_MAX, TEXT_MAX};
 pub use crate::routines::{filter_project, filter_row, filter_strict_project};
+pub use crate::typed_filter::{BRACKETS_MAX, LEAVES_MAX, TEXT_MAX};

@@ -3,7 +3,7 @@
 use crate::ffi::Question;
 use crate::record::{EMPTY, LITERALS_MAX, SHEET_MAX};
 use crate::routines::{meets, project, test_summary};
-use crate::sheets::Sheet;
+use crate::typed_sheet::Sheet;
 use crate::{
     LeafError, Literal, Predicate, PredicateOperator, Refusal, Summary, Transform, Type, Value,
     ValueError, Verdict,

@@ -2,7 +2,7 @@
 
 use crate::record::{Record, EMPTY};
 use crate::routines::{meets, test_summary};
-use crate::sheets::Sheet;
+use crate::typed_sheet::Sheet;
 use crate::{
     Literal, PredicateOperator, Refusal, Summary, Transform, Type, Value, ValueError, Verdict,
 };

@@ -3,7 +3,7 @@
 use crate::ffi::{self, Answer, Asked, PoolAnswer, Question, Setting};
 use crate::pooled::{End, Pooled, Whose};
 use crate::record::Record;
-use crate::summaries::{end_record, HIGHEST, LOWEST, VERDICT_BUFFER};
+use crate::typed_summary::{end_record, HIGHEST, LOWEST, VERDICT_BUFFER};
 use crate::{Refusal, Transform, Type, Verdict};
 
 /// Document 01's answer 0: there is a result, or the answer is yes.

@@ -27,4 +27,4 @@ pub use crate::record::{
 pub use crate::routines::{
     holds, project_into, strict_project_into, strict_project_older_into, transform_into,
 };
-pub use crate::sheets::Sheet;
+pub use crate::typed_sheet::Sheet;

@@ -6,4 +6,4 @@
 
 pub use crate::pooled::{End, Pooled, Whose};
 pub use crate::routines::{pool, test_summary, test_summary_into};
-pub use crate::summaries::{SUMMARY_SIZE, VERDICT_BUFFER};
+pub use crate::typed_summary::{SUMMARY_SIZE, VERDICT_BUFFER};

@@ -14,7 +14,7 @@ use std::str::FromStr;
 
 use crate::contents::{take_literal, Content};
 use crate::record::LITERALS_MAX;
-use crate::sheets::Sheet;
+use crate::typed_sheet::Sheet;
 use crate::{
     Error, Leaf, LeafError, Literal, ParseError, Predicate, PredicateOperator, Transform, Type,
     Value,
