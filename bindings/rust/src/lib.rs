@@ -24,7 +24,7 @@
 //!
 //! A file may be passed over only where [`Predicate::holds`] of the inclusive projection is `Ok(false)`, or its
 //! [`test_summary`](Predicate::test_summary) is `Ok(Verdict::Skip)`. Without a predicate (`Ok(None)`), and after a [`Refusal`],
-//! every file is read. [`Picker`] keeps this rule; where it refuses a summary, `.unwrap_or(Pick::Filter)` does. A `?` after
+//! every file is read. [`Picker`] keeps this rule; where it refuses a summary, `.unwrap_or(Pick::Read)` does. A `?` after
 //! [`project`](Leaf::project) would end the query instead.
 //!
 //! This crate only turns types into bytes and back. Every answer is given by the static library `weighpick_c`, whose routines are
@@ -48,7 +48,7 @@
 //! let filter = Filter::new(&columns, "lot startswith 'ab' and not (grams < 300 or grams = 500)");
 //! filter.check()?; // tells whoever typed it
 //!
-//! for (partition_value, expected) in [(310, Pick::Whole), (500, Pick::Filter), (290, Pick::Skip)] {
+//! for (partition_value, expected) in [(310, Pick::Whole), (500, Pick::Read), (290, Pick::Skip)] {
 //!     let file = columns.partition(&["ab12".into(), Literal::Int(partition_value).into()])?;
 //!     assert_eq!(filter.pick(&file), expected);
 //! }
@@ -67,7 +67,7 @@
 //!
 //! // grams < 295, in a table split by grams in steps of 10
 //! let picker = "int truncate[10] < 295".parse::<Leaf>()?.picker();
-//! for (lowest, highest, expected) in [(0, 280, Pick::Whole), (0, 450, Pick::Filter), (300, 450, Pick::Skip)] {
+//! for (lowest, highest, expected) in [(0, 280, Pick::Whole), (0, 450, Pick::Read), (300, 450, Pick::Skip)] {
 //!     let file = Summary::between(&Literal::Int(lowest), &Literal::Int(highest))?;
 //!     assert_eq!(picker.pick_summary(&file)?, expected);
 //! }
@@ -88,7 +88,7 @@
 //!
 //! // Weighings since 1970, in a table split by day.
 //! let leaf: Leaf = "timestamp day >= 0".parse()?;
-//! for (day, expected) in [("date -1", Pick::Skip), ("date 0", Pick::Filter), ("date 1", Pick::Whole)] {
+//! for (day, expected) in [("date -1", Pick::Skip), ("date 0", Pick::Read), ("date 1", Pick::Whole)] {
 //!     assert_eq!(leaf.older_picker().pick(&day.parse()?)?, expected);
 //! }
 //! # Ok::<(), weighpick::Error>(())

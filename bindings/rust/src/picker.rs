@@ -9,7 +9,7 @@ pub enum Pick {
     /// No row of it meets the leaf or filter: it is passed over.
     Skip,
     /// Some of its rows may: it is read, and each row is tested.
-    Filter,
+    Read,
     /// All of its rows do: it is read, and no row need be tested.
     Whole,
 }
@@ -28,14 +28,14 @@ pub enum Pick {
 /// let leaf = Leaf::binary(PredicateOperator::LessThan, Transform::Truncate(10), &Literal::Int(295))?;
 /// let picker = leaf.picker();
 /// assert_eq!(picker.pick(&Literal::Int(280).into())?, Pick::Whole);
-/// assert_eq!(picker.pick(&Literal::Int(290).into())?, Pick::Filter);
+/// assert_eq!(picker.pick(&Literal::Int(290).into())?, Pick::Read);
 /// assert_eq!(picker.pick(&Literal::Int(300).into())?, Pick::Skip);
 /// assert_eq!(picker.pick(&Value::Missing)?, Pick::Skip);
 ///
 /// // Below the lowest step there is no partition value: refused, and so nothing is passed over.
 /// let lowest = Leaf::binary(PredicateOperator::LessThan, Transform::Truncate(10), &Literal::Int(-2_147_483_640))?;
 /// assert!(lowest.project().is_err());
-/// assert_eq!(lowest.picker().pick(&Literal::Int(0).into())?, Pick::Filter);
+/// assert_eq!(lowest.picker().pick(&Literal::Int(0).into())?, Pick::Read);
 /// # Ok::<(), weighpick::Error>(())
 /// ```
 #[derive(Clone, Debug, PartialEq, Eq, Hash)]
@@ -65,7 +65,7 @@ impl Leaf {
     /// let (picker, older) = (leaf.picker(), leaf.older_picker());
     /// for (year, by_picker, by_older) in [
     ///     (-1, Pick::Skip, Pick::Skip),
-    ///     (0, Pick::Whole, Pick::Filter),
+    ///     (0, Pick::Whole, Pick::Read),
     ///     (1, Pick::Whole, Pick::Whole),
     /// ] {
     ///     let file = Literal::Int(year);
@@ -93,11 +93,11 @@ impl Picker {
     /// What is done with the file of a partition value.
     ///
     /// Every value of the partition's type has an answer. One of another type is an error, since it is none of this table's; who
-    /// would rather read such a file than end the query writes `.unwrap_or(Pick::Filter)`. Where there is no such type, as under
-    /// [`Transform::Unknown`](crate::Transform::Unknown), every value is answered [`Pick::Filter`].
+    /// would rather read such a file than end the query writes `.unwrap_or(Pick::Read)`. Where there is no such type, as under
+    /// [`Transform::Unknown`](crate::Transform::Unknown), every value is answered [`Pick::Read`].
     pub fn pick(&self, partition_value: &Value) -> Result<Pick, ValueError> {
         let Some(partition_type) = self.partition_type else {
-            return Ok(Pick::Filter);
+            return Ok(Pick::Read);
         };
         let mut record = EMPTY;
         partition_value.put(partition_type, &mut record)?;
@@ -111,14 +111,14 @@ impl Picker {
                 return Ok(Pick::Whole);
             }
         }
-        Ok(Pick::Filter)
+        Ok(Pick::Read)
     }
 
     /// What is done with a file of which only the ends of its partition values are known.
     ///
     /// A summary of another type than the partition's, or one whose lowest is above its highest, is [`Refusal::WrongSummary`],
-    /// whether there is a predicate or not; such a file is to be read, which `.unwrap_or(Pick::Filter)` says. Where there is no
-    /// such type, every summary is answered [`Pick::Filter`].
+    /// whether there is a predicate or not; such a file is to be read, which `.unwrap_or(Pick::Read)` says. Where there is no
+    /// such type, every summary is answered [`Pick::Read`].
     ///
     /// ```
     /// use weighpick::{Leaf, Pick, Summary};
@@ -126,8 +126,8 @@ impl Picker {
     /// let picker = "int truncate[10] < 295".parse::<Leaf>()?.picker();
     /// for (file, expected) in [
     ///     ("int 0 to 280", Pick::Whole),
-    ///     ("int 0 to 290", Pick::Filter), // there may be a row of 297
-    ///     ("int 0 to 280, missing", Pick::Filter),
+    ///     ("int 0 to 290", Pick::Read), // there may be a row of 297
+    ///     ("int 0 to 280, missing", Pick::Read),
     ///     ("int 300 to 450, missing", Pick::Skip),
     ///     ("int empty", Pick::Skip),
     /// ] {
@@ -137,7 +137,7 @@ impl Picker {
     /// ```
     pub fn pick_summary(&self, summary: &Summary) -> Result<Pick, Refusal> {
         let Some(partition_type) = self.partition_type else {
-            return Ok(Pick::Filter);
+            return Ok(Pick::Read);
         };
         // Without a predicate to ask, the summary is looked at all the same.
         if !matches!(
@@ -156,7 +156,7 @@ impl Picker {
                 return Ok(Pick::Whole);
             }
         }
-        Ok(Pick::Filter)
+        Ok(Pick::Read)
     }
 
     /// What [`Leaf::project`] answered.

@@ -41,7 +41,7 @@ pub const BRACKETS_MAX: usize = 16;
 /// // A file, by its partition values.
 /// let file = |lot: &str, grams| columns.partition(&[lot.into(), Literal::Int(grams).into()]);
 /// assert_eq!(filter.pick(&file("ab12", 310)?), Pick::Whole);
-/// assert_eq!(filter.pick(&file("ab12", 500)?), Pick::Filter);
+/// assert_eq!(filter.pick(&file("ab12", 500)?), Pick::Read);
 /// assert_eq!(filter.pick(&file("ab12", 290)?), Pick::Skip);
 ///
 /// // A row of a file that is read and filtered.
@@ -123,7 +123,7 @@ impl<'a> Filter<'a> {
     /// // Below the lowest step there is no partition value.
     /// let filter = Filter::new(&columns, "grams < -2147483640");
     /// assert_eq!(filter.project(&file), Err(Refusal::Overflow));
-    /// assert_eq!(filter.pick(&file), Pick::Filter);
+    /// assert_eq!(filter.pick(&file), Pick::Read);
     /// # Ok::<(), weighpick::Error>(())
     /// ```
     pub fn pick(&self, partition: &Partition) -> Pick {
@@ -132,7 +132,7 @@ impl<'a> Filter<'a> {
         } else if self.strict_project(partition) == Ok(true) {
             Pick::Whole
         } else {
-            Pick::Filter
+            Pick::Read
         }
     }
 
@@ -146,14 +146,14 @@ impl<'a> Filter<'a> {
     /// let filter = Filter::new(&columns, "day >= 0");
     /// let file = |year| columns.partition(&[Literal::Int(year).into()]);
     /// assert_eq!(filter.pick(&file(0)?), Pick::Whole);
-    /// assert_eq!(filter.pick_older(&file(0)?), Pick::Filter); // a row of 1969 may lie there
+    /// assert_eq!(filter.pick_older(&file(0)?), Pick::Read); // a row of 1969 may lie there
     /// assert_eq!(filter.pick_older(&file(-1)?), Pick::Skip);
     /// # Ok::<(), weighpick::Error>(())
     /// ```
     pub fn pick_older(&self, partition: &Partition) -> Pick {
         match self.project(partition) {
             Ok(false) => Pick::Skip,
-            _ => Pick::Filter,
+            _ => Pick::Read,
         }
     }
 }

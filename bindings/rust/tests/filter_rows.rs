@@ -112,7 +112,7 @@ fn no_row_is_lost() {
         match picked {
             Pick::Skip => assert_eq!(met, Ok(false), "{filter:?} loses {row:?}"),
             Pick::Whole => assert_eq!(met, Ok(true), "{filter:?} lets {row:?} in"),
-            Pick::Filter => assert!(met.is_ok()),
+            Pick::Read => assert!(met.is_ok()),
         }
         picks[picked as usize] += 1;
     }

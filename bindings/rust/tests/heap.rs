@@ -79,8 +79,8 @@ fn files_are_picked_without() -> Result<(), Error> {
     let pickers = [leaf.picker(), leaf.older_picker()];
     let wrong = Err(Refusal::WrongSummary);
     for (lowest, highest, expected) in [
-        (0, 20, Ok(Pick::Filter)),
-        (10, 300, Ok(Pick::Filter)),
+        (0, 20, Ok(Pick::Read)),
+        (10, 300, Ok(Pick::Read)),
         (100, 300, Ok(Pick::Skip)),
         (2, 1, wrong),
     ] {

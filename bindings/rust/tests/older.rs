@@ -240,8 +240,8 @@ fn a_filter_takes_none_whole() -> Result<(), Error> {
     let since_1970 = Filter::new(&columns, "day >= 0");
     for (year, pick, pick_older) in [
         (-1, Pick::Skip, Pick::Skip),
-        (0, Pick::Whole, Pick::Filter),
-        (1, Pick::Whole, Pick::Filter),
+        (0, Pick::Whole, Pick::Read),
+        (1, Pick::Whole, Pick::Read),
     ] {
         let file = columns.partition(&[Literal::Int(year).into()])?;
         assert_eq!(since_1970.pick(&file), pick, "{year}");
@@ -254,6 +254,6 @@ fn a_filter_takes_none_whole() -> Result<(), Error> {
     let refused = Filter::new(&columns, "day >= -96465292 and day < -96465292");
     let file = columns.partition(&[Literal::Int(0).into()])?;
     assert_eq!(refused.project(&file), Err(Refusal::Overflow));
-    assert_eq!(refused.pick_older(&file), Pick::Filter);
+    assert_eq!(refused.pick_older(&file), Pick::Read);
     Ok(())
 }

@@ -109,7 +109,7 @@ impl Picked {
         match older {
             Pick::Skip => assert_eq!(met, 0, "{leaf} loses one of {rows:?}"),
             Pick::Whole => assert_eq!(met, rows.len(), "{leaf} takes {rows:?} whole"),
-            Pick::Filter => {}
+            Pick::Read => {}
         }
         // What is skipped is the same, and nothing more is taken whole.
         assert_eq!(older == Pick::Skip, ordinary == Pick::Skip, "{leaf}");

@@ -14,9 +14,9 @@ fn pick(leaf: &str, partition_value: &str) -> Result<Pick, Error> {
 }
 
 #[test]
-fn skip_filter_and_whole() {
+fn skip_read_and_whole() {
     assert_eq!(pick("int truncate[10] < 295", "int 280"), Ok(Pick::Whole));
-    assert_eq!(pick("int truncate[10] < 295", "int 290"), Ok(Pick::Filter));
+    assert_eq!(pick("int truncate[10] < 295", "int 290"), Ok(Pick::Read));
     assert_eq!(pick("int truncate[10] < 295", "int 300"), Ok(Pick::Skip));
     assert_eq!(pick("int truncate[10] < 295", "missing"), Ok(Pick::Skip));
     assert_eq!(pick("date month IS NULL", "missing"), Ok(Pick::Whole));
@@ -38,10 +38,7 @@ fn lots_left_blank() {
         Ok(Pick::Whole)
     );
     // An inclusive predicate that accepts them, and no strict one.
-    assert_eq!(
-        blank("int truncate[10] NOT STARTS WITH 5"),
-        Ok(Pick::Filter)
-    );
+    assert_eq!(blank("int truncate[10] NOT STARTS WITH 5"), Ok(Pick::Read));
     assert_eq!(blank("string truncate[4] = \"ab12\""), Ok(Pick::Skip));
     assert_eq!(blank("string truncate[4] IS NOT NULL"), Ok(Pick::Skip));
 }
@@ -50,7 +47,7 @@ fn lots_left_blank() {
 fn lots_kept_as_binary() {
     let after = |lot| pick("binary truncate[2] > 0x00ff01", lot);
     assert_eq!(after("binary 0x0100"), Ok(Pick::Whole));
-    assert_eq!(after("binary 0x00ff"), Ok(Pick::Filter));
+    assert_eq!(after("binary 0x00ff"), Ok(Pick::Read));
     assert_eq!(after("binary 0x00"), Ok(Pick::Skip));
     assert_eq!(after("missing"), Ok(Pick::Skip));
 }
@@ -58,12 +55,12 @@ fn lots_kept_as_binary() {
 #[test]
 fn without_a_predicate() {
     // Neither has one.
-    assert_eq!(pick("int void = 1", "int 1"), Ok(Pick::Filter));
+    assert_eq!(pick("int void = 1", "int 1"), Ok(Pick::Read));
     // No inclusive one, so that nothing is skipped; the strict one accepts only other steps.
-    assert_eq!(pick("int truncate[10] != 5", "int 0"), Ok(Pick::Filter));
+    assert_eq!(pick("int truncate[10] != 5", "int 0"), Ok(Pick::Read));
     assert_eq!(pick("int truncate[10] != 5", "int 10"), Ok(Pick::Whole));
     // No strict one, so that nothing is taken whole, not even where it could be.
-    assert_eq!(pick("int truncate[1] = 5", "int 5"), Ok(Pick::Filter));
+    assert_eq!(pick("int truncate[1] = 5", "int 5"), Ok(Pick::Read));
     assert_eq!(pick("int truncate[1] = 5", "int 6"), Ok(Pick::Skip));
 }
 
@@ -73,22 +70,18 @@ fn after_a_refusal() -> Result<(), Error> {
     let lowest = "int truncate[10] < -2147483640".parse::<Leaf>()?.picker();
     assert_eq!(lowest.inclusive(), Err(Refusal::Overflow));
     assert!(matches!(lowest.strict(), Ok(Some(_))));
-    for (step, expected) in [
-        (i32::MIN, Pick::Whole),
-        (-10, Pick::Filter),
-        (0, Pick::Filter),
-    ] {
+    for (step, expected) in [(i32::MIN, Pick::Whole), (-10, Pick::Read), (0, Pick::Read)] {
         assert_eq!(lowest.pick(&Literal::Int(step).into()), Ok(expected));
     }
     // Of the strict one alone: the inclusive one still says what is skipped.
     let highest = "int truncate[10] <= 2147483647".parse::<Leaf>()?.picker();
     assert!(matches!(highest.inclusive(), Ok(Some(_))));
     assert_eq!(highest.strict(), Err(Refusal::Overflow));
-    assert_eq!(highest.pick(&Literal::Int(0).into()), Ok(Pick::Filter));
+    assert_eq!(highest.pick(&Literal::Int(0).into()), Ok(Pick::Read));
     assert_eq!(highest.pick(&Value::Missing), Ok(Pick::Skip));
     // Of both.
     let wide = format!("int truncate[{}] < 0", 1_u32 << 31);
-    assert_eq!(pick(&wide, "int 0"), Ok(Pick::Filter));
+    assert_eq!(pick(&wide, "int 0"), Ok(Pick::Read));
     Ok(())
 }
 
@@ -96,7 +89,7 @@ fn after_a_refusal() -> Result<(), Error> {
 fn where_partition_values_have_no_type() {
     for leaf in ["time year = 0", "int unknown = 0"] {
         for value in ["missing", "int 0", "string \"a\""] {
-            assert_eq!(pick(leaf, value), Ok(Pick::Filter), "{leaf} at {value}");
+            assert_eq!(pick(leaf, value), Ok(Pick::Read), "{leaf} at {value}");
         }
     }
 }
@@ -132,12 +125,12 @@ fn pick_by_filter(text: &str, lot: &str, grams: i32) -> Result<Pick, Error> {
 }
 
 #[test]
-fn skip_filter_and_whole_by_a_filter() {
+fn skip_read_and_whole_by_a_filter() {
     let text = "lot startswith 'ab' and not (grams < 295 or grams = 500)";
     for (lot, grams, expected) in [
         ("ab12", 310, Pick::Whole),
-        ("ab12", 290, Pick::Filter),
-        ("ab12", 500, Pick::Filter),
+        ("ab12", 290, Pick::Read),
+        ("ab12", 500, Pick::Read),
         ("ab12", 280, Pick::Skip),
         ("ac12", 310, Pick::Skip),
     ] {
@@ -157,14 +150,14 @@ fn after_a_refusal_of_a_filter() {
         pick_by_filter(lowest, "ab", -2_147_483_648),
         Ok(Pick::Whole)
     );
-    assert_eq!(pick_by_filter(lowest, "cd", 0), Ok(Pick::Filter));
+    assert_eq!(pick_by_filter(lowest, "cd", 0), Ok(Pick::Read));
     // Of the strict one alone: the inclusive one still says what is skipped, and nothing is taken whole.
     let highest = "grams <= 2147483647 and lot startswith 'ab'";
     assert_eq!(pick_by_filter(highest, "cd", 0), Ok(Pick::Skip));
-    assert_eq!(pick_by_filter(highest, "ab", 0), Ok(Pick::Filter));
+    assert_eq!(pick_by_filter(highest, "ab", 0), Ok(Pick::Read));
     // Of both, by the leaves or by the text.
     let both = format!("{lowest} or grams <= 2147483647");
     for text in [both.as_str(), "price < 1", "?", &"(".repeat(5000)] {
-        assert_eq!(pick_by_filter(text, "cd", 0), Ok(Pick::Filter), "{text}");
+        assert_eq!(pick_by_filter(text, "cd", 0), Ok(Pick::Read), "{text}");
     }
 }

@@ -19,13 +19,13 @@ fn pick(leaf: &str, file: &str) -> Result<Pick, Error> {
 }
 
 #[test]
-fn skip_filter_and_whole() {
+fn skip_read_and_whole() {
     let below = |file| pick("int truncate[10] < 295", file);
     assert_eq!(below("int 0 to 280"), Ok(Pick::Whole));
-    assert_eq!(below("int 0 to 280, missing"), Ok(Pick::Filter));
+    assert_eq!(below("int 0 to 280, missing"), Ok(Pick::Read));
     // The inclusive predicate accepts all of them, but there may be a row of 297.
-    assert_eq!(below("int 0 to 290"), Ok(Pick::Filter));
-    assert_eq!(below("int 290 to 450"), Ok(Pick::Filter));
+    assert_eq!(below("int 0 to 290"), Ok(Pick::Read));
+    assert_eq!(below("int 290 to 450"), Ok(Pick::Read));
     assert_eq!(below("int 300 to 450"), Ok(Pick::Skip));
     assert_eq!(below("int 300 to 450, missing"), Ok(Pick::Skip));
     assert_eq!(below("int missing"), Ok(Pick::Skip));
@@ -34,11 +34,11 @@ fn skip_filter_and_whole() {
     // Missing values count as different.
     let others = |file| pick("int truncate[10] != 5", file);
     assert_eq!(others("int 10 to 20, missing"), Ok(Pick::Whole));
-    assert_eq!(others("int 0 to 20, missing"), Ok(Pick::Filter));
+    assert_eq!(others("int 0 to 20, missing"), Ok(Pick::Read));
     assert_eq!(others("int missing"), Ok(Pick::Whole));
     // Texts are never taken whole.
     let starts = |file| pick("string truncate[4] STARTS WITH \"ab\"", file);
-    assert_eq!(starts("string \"ab\" to \"abcd\""), Ok(Pick::Filter));
+    assert_eq!(starts("string \"ab\" to \"abcd\""), Ok(Pick::Read));
     assert_eq!(starts("string \"ac\" to \"b\""), Ok(Pick::Skip));
 }
 
@@ -46,14 +46,11 @@ fn skip_filter_and_whole() {
 fn without_a_predicate_and_after_a_refusal() {
     // No inclusive one: nothing is skipped, not even an empty file.
     for file in ["int 0 to 0", "int missing", "int empty"] {
-        assert_eq!(pick("int void = 1", file), Ok(Pick::Filter));
-        assert_eq!(
-            pick("int truncate[10] < -2147483640", file),
-            Ok(Pick::Filter)
-        );
+        assert_eq!(pick("int void = 1", file), Ok(Pick::Read));
+        assert_eq!(pick("int truncate[10] < -2147483640", file), Ok(Pick::Read));
     }
     for file in ["int 0 to 0", "int 0 to 0, missing", "int empty"] {
-        assert_eq!(pick("int truncate[10] != 5", file), Ok(Pick::Filter));
+        assert_eq!(pick("int truncate[10] != 5", file), Ok(Pick::Read));
     }
     assert_eq!(
         pick("int truncate[10] != 5", "int 10 to 20"),
@@ -65,14 +62,14 @@ fn without_a_predicate_and_after_a_refusal() {
         Ok(Pick::Whole)
     );
     // No strict one: nothing is taken whole.
-    assert_eq!(pick("int truncate[1] = 5", "int 5 to 5"), Ok(Pick::Filter));
+    assert_eq!(pick("int truncate[1] = 5", "int 5 to 5"), Ok(Pick::Read));
     assert_eq!(
         pick("int truncate[10] <= 2147483647", "int 0 to 0"),
-        Ok(Pick::Filter)
+        Ok(Pick::Read)
     );
     // Partition values have no type.
     for leaf in ["time year = 0", "int unknown = 0"] {
-        assert_eq!(pick(leaf, "string \"b\" to \"a\""), Ok(Pick::Filter));
+        assert_eq!(pick(leaf, "string \"b\" to \"a\""), Ok(Pick::Read));
     }
 }
 
@@ -87,7 +84,7 @@ fn a_summary_that_is_none_of_the_table_s() {
     // Without a predicate it is looked at all the same.
     assert_eq!(pick("int void = 1", "date 1 to 1"), wrong);
     assert_eq!(pick("int void = 1", "int 2 to 1"), wrong);
-    assert_eq!(pick("int void = 1", "int 1 to 2"), Ok(Pick::Filter));
+    assert_eq!(pick("int void = 1", "int 1 to 2"), Ok(Pick::Read));
 }
 
 /// Rows of a file with their partition values.
@@ -111,7 +108,7 @@ fn check(leaf: &Leaf, partition_type: Type, rows: &Rows) -> Pick {
         match picked {
             Pick::Skip => assert!(!meets(leaf, row), "{leaf} loses {row} of {file}"),
             Pick::Whole => assert!(meets(leaf, row), "{leaf} lets {row} of {file} in"),
-            Pick::Filter => continue,
+            Pick::Read => continue,
         }
         assert_eq!(by_value, picked, "{leaf} at {value} of {file}");
     }
@@ -129,7 +126,7 @@ fn check_group(leaf: &Leaf, partition_type: Type, files: &[Rows]) -> Pick {
         match picked {
             Pick::Skip => assert_eq!(check(leaf, partition_type, rows), Pick::Skip),
             Pick::Whole => assert!(rows.iter().all(|(row, _)| meets(leaf, row)), "{leaf}"),
-            Pick::Filter => {}
+            Pick::Read => {}
         }
     }
     picked

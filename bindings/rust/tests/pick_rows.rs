@@ -72,7 +72,7 @@ fn small_world(
             match picked {
                 Pick::Skip => assert_eq!(met, 0, "{leaf} loses rows of {value}"),
                 Pick::Whole => assert_eq!(met, rows.len(), "{leaf} takes {value} whole"),
-                Pick::Filter => {}
+                Pick::Read => {}
             }
             *picks.entry(format!("{picked:?}")).or_default() += 1;
         }
@@ -96,7 +96,7 @@ fn no_row_is_lost_in_small_worlds() {
     for (column_type, transform, rows) in of_numbers.into_iter().chain(of_lots) {
         let picks = small_world(column_type, transform, rows);
         assert!(
-            ["Skip", "Filter", "Whole"]
+            ["Skip", "Read", "Whole"]
                 .iter()
                 .all(|pick| picks.contains_key(*pick)),
             "{picks:?}"
@@ -107,7 +107,7 @@ fn no_row_is_lost_in_small_worlds() {
     assert!(picks.keys().eq(["Skip", "Whole"]), "{picks:?}");
     // Void has no predicates.
     let picks = small_world(Type::Int, Transform::Void, numbers(Type::Int, -3..=3));
-    assert!(picks.keys().eq(["Filter"]), "{picks:?}");
+    assert!(picks.keys().eq(["Read"]), "{picks:?}");
 }
 
 #[test]
@@ -126,7 +126,7 @@ fn no_row_is_lost_at_the_edges() {
             match picked {
                 Pick::Skip => assert!(!meets(&leaf, &row), "{leaf} loses {row}"),
                 Pick::Whole => assert!(meets(&leaf, &row), "{leaf} lets {row} in"),
-                Pick::Filter => {}
+                Pick::Read => {}
             }
             picks[picked as usize] += 1;
         }

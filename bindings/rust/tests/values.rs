@@ -140,7 +140,7 @@ fn a_row_of_other_columns_is_malformed() {
     assert_eq!(filter.project(&partition), Err(Refusal::Malformed));
     assert_eq!(filter.strict_project(&partition), Err(Refusal::Malformed));
     // Nothing is known of the file, so it is read.
-    assert_eq!(filter.pick(&partition), Pick::Filter);
+    assert_eq!(filter.pick(&partition), Pick::Read);
     // A row of an equal list is one of this.
     assert_eq!(Filter::new(&of(Type::Date), "x < 1").row(&row), Ok(true));
 }

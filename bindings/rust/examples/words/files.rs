@@ -78,7 +78,7 @@ impl Asked {
         let line = format!("group {name}: {}\n", word(pick));
         match pick {
             Pick::Skip => line,
-            Pick::Filter | Pick::Whole => line + &self.of_files(files),
+            Pick::Read | Pick::Whole => line + &self.of_files(files),
         }
     }
 
@@ -86,7 +86,7 @@ impl Asked {
     /// table's, they are read.
     fn pick(&self, summary: Option<&Summary>) -> Pick {
         let picked = summary.map(|summary| self.picker.pick_summary(summary));
-        picked.map_or(Pick::Filter, |picked| picked.unwrap_or(Pick::Filter))
+        picked.map_or(Pick::Read, |picked| picked.unwrap_or(Pick::Read))
     }
 }
 
@@ -120,7 +120,7 @@ fn summary(partition_type: Type, word: &str) -> Result<Summary, String> {
 fn word(pick: Pick) -> &'static str {
     match pick {
         Pick::Skip => "skip",
-        Pick::Filter => "read",
+        Pick::Read => "read",
         Pick::Whole => "whole",
     }
 }
