@@ -46,8 +46,8 @@ pub enum Refusal {
 }
 
 impl Refusal {
-    /// All refusals, by number.
-    pub const ALL: [Refusal; 11] = [
+    /// All refusals, by number. A slice, since a later version may have more.
+    pub const ALL: &'static [Refusal] = &[
         Refusal::BufferTooSmall,
         Refusal::Malformed,
         Refusal::NotUtf8,
@@ -68,7 +68,8 @@ impl Refusal {
 
     /// The refusal with one of the documents' numbers.
     pub fn from_number(number: u32) -> Option<Refusal> {
-        Refusal::ALL.into_iter().find(|r| r.number() == number)
+        let mut all = Refusal::ALL.iter().copied();
+        all.find(|refusal| refusal.number() == number)
     }
 }
 

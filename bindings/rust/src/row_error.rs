@@ -12,7 +12,7 @@ use crate::ValueError;
 ///
 /// let columns = Columns::new([("lot", Type::String, Transform::Identity), ("day", Type::Date, Transform::Month)])?;
 /// let row = columns.row(&["ab12".into()]);
-/// assert_eq!(row, Err(RowError::WrongCount(2, 1)));
+/// assert_eq!(row, Err(RowError::WrongCount { expected: 2, found: 1 }));
 ///
 /// // A month is an Int.
 /// let partition = columns.partition(&["ab12".into(), Literal::Date(31).into()]);
@@ -23,8 +23,13 @@ use crate::ValueError;
 #[derive(Clone, Debug, PartialEq, Eq, Hash)]
 #[non_exhaustive]
 pub enum RowError {
-    /// For so many columns, the first number, so many values.
-    WrongCount(usize, usize),
+    /// Another number of values than of columns.
+    WrongCount {
+        /// How many columns there are.
+        expected: usize,
+        /// How many values there were.
+        found: usize,
+    },
     /// The value of the column with this name is none of it.
     Value(String, ValueError),
 }
@@ -32,10 +37,10 @@ pub enum RowError {
 impl Display for RowError {
     fn fmt(&self, f: &mut Formatter<'_>) -> fmt::Result {
         match self {
-            RowError::WrongCount(columns, values) => {
+            RowError::WrongCount { expected, found } => {
                 write!(
                     f,
-                    "{columns} values are asked for, one a column, and not {values}"
+                    "{expected} values are asked for, one a column, and not {found}"
                 )
             }
             RowError::Value(name, error) => write!(f, "`{name}`: {error}"),

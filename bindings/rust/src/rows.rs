@@ -92,14 +92,15 @@ impl Values {
         types: &Types,
         values: impl IntoIterator<Item = &'a Value>,
     ) -> Result<Values, RowError> {
-        let count = columns.iter().len();
+        let expected = columns.iter().len();
+        let wrong_count = |found| RowError::WrongCount { expected, found };
         let mut values = values.into_iter();
         let mut records = [0; RECORD_SIZE * COLUMNS_MAX];
         let places = records
             .chunks_exact_mut(RECORD_SIZE)
             .zip(types.iter().flatten());
         for (before, (place, value_type)) in places.enumerate() {
-            let value = values.next().ok_or(RowError::WrongCount(count, before))?;
+            let value = values.next().ok_or(wrong_count(before))?;
             let record: &mut Record = place.first_chunk_mut().expect("room for a record");
             value.put(*value_type, record).map_err(|error| {
                 let column = columns.iter().nth(before);
@@ -112,7 +113,7 @@ impl Values {
                 types: *types,
                 records,
             }),
-            more => Err(RowError::WrongCount(count, count + more)),
+            more => Err(wrong_count(expected + more)),
         }
     }
 

@@ -91,7 +91,10 @@ fn one_error_takes_them_all() {
         Ok(columns.row(values)?)
     };
     assert_eq!(row("", &[]), Err(Error::Column(ColumnError::NoName)));
-    let wrong = RowError::WrongCount(1, 0);
+    let wrong = RowError::WrongCount {
+        expected: 1,
+        found: 0,
+    };
     assert_eq!(row("grams", &[]), Err(Error::Row(wrong)));
 }
 
@@ -115,7 +118,11 @@ fn the_words_are_those_of_the_error_inside() {
             "two columns have the name `lot`".to_string(),
         ),
         (
-            RowError::WrongCount(2, 1).into(),
+            RowError::WrongCount {
+                expected: 2,
+                found: 1,
+            }
+            .into(),
             "2 values are asked for, one a column, and not 1".to_string(),
         ),
         (Refusal::Overflow.into(), Refusal::Overflow.to_string()),

@@ -18,8 +18,8 @@ fn numbers() {
     let operators = (0..=u16::MAX).filter_map(PredicateOperator::from_number);
     assert!(operators.eq(PredicateOperator::ALL));
     let refusals = (0..=u32::from(u16::MAX)).filter_map(Refusal::from_number);
-    assert!(refusals.eq(Refusal::ALL));
-    assert!((2..=12).eq(Refusal::ALL.map(Refusal::number)));
+    assert!(refusals.eq(Refusal::ALL.iter().copied()));
+    assert!((2..=12).eq(Refusal::ALL.iter().map(|refusal| refusal.number())));
     let files = (0..=u64::from(u16::MAX)).filter_map(Whose::from_number);
     assert!(files.eq(Whose::ALL));
     for transform in TRANSFORMS {

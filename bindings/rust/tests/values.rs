@@ -33,7 +33,7 @@ fn values_of_the_wrong_count() {
         let values = vec![Value::Missing; count];
         let expected = match count {
             3 => None,
-            count => Some(RowError::WrongCount(3, count)),
+            found => Some(RowError::WrongCount { expected: 3, found }),
         };
         assert_eq!(columns.row(&values).err(), expected);
         assert_eq!(columns.partition(&values).err(), expected);

@@ -22,9 +22,9 @@ pub fn asked(words: &[impl AsRef<str>]) -> Result<Asked, String> {
     let columns: Result<Vec<Column<'_>>, String> = columns.map(column).collect();
     let columns = Columns::new(columns?).map_err(|wrong| wrong.to_string())?;
     let words: Vec<&str> = words.collect();
-    let count = columns.iter().len();
-    if words.len() != count {
-        return Err(RowError::WrongCount(count, words.len()).to_string());
+    let (expected, found) = (columns.iter().len(), words.len());
+    if found != expected {
+        return Err(RowError::WrongCount { expected, found }.to_string());
     }
     let values = columns.iter().zip(words);
     let values = values.map(|((_, column_type, _), word)| value(column_type, word));
