@@ -2,6 +2,7 @@
 //! `compare`. `tests/declarations.rs` holds them to the C header and to the library's source.
 
 unsafe extern "C" {
+    pub fn weighpick_version() -> u32;
     pub fn weighpick_project(
         sheet: *const u8,
         sheet_len: usize,

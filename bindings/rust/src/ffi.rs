@@ -4,14 +4,41 @@
 //! no pointer and has no state. It is proved to do so for bytes of every kind, so the safe functions below ask nothing of their
 //! callers. Proved as well is that number, count and the written bytes are the same whatever `out` held before the call: `out` may
 //! be memory that nothing was written to.
+//!
+//! All this holds of the library that the declarations are of, so that each call goes through `checked`.
 
 #![allow(unsafe_code)]
 
 use std::mem::MaybeUninit;
 use std::slice;
+use std::sync::atomic::{AtomicBool, Ordering};
 
-use crate::c_names;
 use crate::record::{SHEET_BUFFER, VALUE_BUFFER};
+use crate::{c_names, version};
+
+/// Whether the library has told this crate's version.
+static TOLD: AtomicBool = AtomicBool::new(false);
+
+/// A routine of the library, once the library has told this crate's version; one of another version ends in a panic.
+#[inline]
+fn checked<F>(routine: F) -> F {
+    // Nothing else hangs on the flag, and threads that ask at once are told the same.
+    if !TOLD.load(Ordering::Relaxed) {
+        ask_version();
+    }
+    routine
+}
+
+/// Asks the library for its version.
+#[cold]
+fn ask_version() {
+    // SAFETY: it takes nothing, and only gives a number.
+    let library = unsafe { c_names::weighpick_version() };
+    if let Some(wrong) = version::mismatch(version::OWN, library) {
+        panic!("{wrong}");
+    }
+    TOLD.store(true, Ordering::Relaxed);
+}
 
 /// Memory for a result that goes with the call. It starts with a line of the cache, of 64 bytes, so that a record lies in as few
 /// of them as it can.
@@ -81,11 +108,11 @@ pub(crate) struct Answer {
 /// `out` is lent to this call alone, for writing `out_len` bytes.
 #[inline]
 unsafe fn project_at(question: Question, sheet: &[u8], out: *mut u8, out_len: usize) -> Answer {
-    let projection = match question {
+    let projection = checked(match question {
         Question::Inclusive => c_names::weighpick_project,
         Question::Strict => c_names::weighpick_strict_project,
         Question::Older => c_names::weighpick_strict_project_older,
-    };
+    });
     let mut count = 0;
     // SAFETY: the sheet's pointer comes from a live reference and goes with its length, `out` is as this function asks, and
     // `count` is a variable of its own, so that nothing that is written overlaps anything else.
@@ -103,10 +130,11 @@ unsafe fn project_at(question: Question, sheet: &[u8], out: *mut u8, out_len: us
 /// As for `project_at`.
 #[inline]
 unsafe fn transform_at(setting: Setting, value: &[u8], out: *mut u8, out_len: usize) -> Answer {
+    let routine = checked(c_names::weighpick_transform);
     let mut count = 0;
     // SAFETY: as in `project_at`; the three numbers may have any value.
     let number = unsafe {
-        c_names::weighpick_transform(
+        routine(
             setting.column_type,
             setting.transform,
             setting.width,
@@ -165,17 +193,19 @@ pub(crate) fn transform<T>(
 
 /// The holds-test; gives document 01's number.
 pub(crate) fn holds(sheet: &[u8], value: &[u8]) -> u32 {
+    let routine = checked(c_names::weighpick_holds);
     // SAFETY: both pointers come from live references and go with their slices' lengths; nothing is written.
-    unsafe { c_names::weighpick_holds(sheet.as_ptr(), sheet.len(), value.as_ptr(), value.len()) }
+    unsafe { routine(sheet.as_ptr(), sheet.len(), value.as_ptr(), value.len()) }
 }
 
 /// The test of a summary into a lent buffer.
 pub(crate) fn test_summary_into(sheet: &[u8], summary: &[u8], out: &mut [u8]) -> Answer {
+    let routine = checked(c_names::weighpick_test_summary);
     let mut count = 0;
     // SAFETY: all pointers come from live references and go with their slices' lengths; `out` is borrowed exclusively, and `count`
     // is a variable of its own.
     let number = unsafe {
-        c_names::weighpick_test_summary(
+        routine(
             sheet.as_ptr(),
             sheet.len(),
             summary.as_ptr(),
@@ -202,10 +232,11 @@ pub(crate) struct PoolAnswer {
 /// The pooling of two summaries.
 #[inline]
 pub(crate) fn pool(first: &[u8], second: &[u8]) -> PoolAnswer {
+    let routine = checked(c_names::weighpick_pool);
     let (mut lowest, mut highest, mut flag) = (0, 0, 0);
     // SAFETY: both pointers come from live references and go with their slices' lengths; what is written are three variables.
     let number = unsafe {
-        c_names::weighpick_pool(
+        routine(
             first.as_ptr(),
             first.len(),
             second.as_ptr(),
@@ -225,11 +256,11 @@ pub(crate) fn pool(first: &[u8], second: &[u8]) -> PoolAnswer {
 
 /// A filter's answer; gives document 01's number.
 pub(crate) fn filter(asked: Asked, columns: &[u8], text: &[u8], values: &[u8]) -> u32 {
-    let routine = match asked {
+    let routine = checked(match asked {
         Asked::Row => c_names::weighpick_filter_row,
         Asked::Inclusive => c_names::weighpick_filter_project,
         Asked::Strict => c_names::weighpick_filter_strict_project,
-    };
+    });
     // SAFETY: the three pointers come from live references and go with their slices' lengths; nothing is written.
     unsafe {
         routine(

@@ -130,6 +130,7 @@ mod types;
 mod value;
 mod value_error;
 mod verdict;
+mod version;
 
 pub use column_error::ColumnError;
 pub use columns::Columns;
