@@ -1,18 +1,7 @@
 //! The safe rule for a server: what is done with a file, by its partition value or by a summary of its partition values.
 
 use crate::record::EMPTY;
-use crate::{Leaf, Predicate, Refusal, Summary, Type, Value, ValueError, Verdict};
-
-/// What is done with a file, by its partition value, by its partition values, or by a summary of them.
-#[derive(Clone, Copy, Debug, PartialEq, Eq, Hash)]
-pub enum Pick {
-    /// No row of it meets the leaf or filter: it is passed over.
-    Skip,
-    /// Some of its rows may: it is read, and each row is tested.
-    Read,
-    /// All of its rows do: it is read, and no row need be tested.
-    Whole,
-}
+use crate::{Leaf, Pick, Predicate, Refusal, Summary, Type, Value, ValueError, Verdict};
 
 /// Both projections of a leaf, asked once, to pick files by their partition values or summaries. Made by [`Leaf::picker`] or, for
 /// files of older writers, by [`Leaf::older_picker`].

@@ -1,5 +1,7 @@
 //! Verdicts: what the test of a summary says of a file.
 
+use std::fmt::{self, Display, Formatter};
+
 /// What a predicate says of a file by its summary. Of strings and binaries [`Whole`](Verdict::Whole) is never said.
 ///
 /// By a leaf it is about the values of the file themselves. By the predicate of a projection, and a summary of partition values, it
@@ -31,5 +33,16 @@ impl Verdict {
     #[inline]
     pub fn from_number(number: u8) -> Option<Verdict> {
         Verdict::ALL.get(usize::from(number)).copied()
+    }
+}
+
+/// `skip`, `read` or `whole`.
+impl Display for Verdict {
+    fn fmt(&self, f: &mut Formatter<'_>) -> fmt::Result {
+        f.write_str(match self {
+            Verdict::Skip => "skip",
+            Verdict::Read => "read",
+            Verdict::Whole => "whole",
+        })
     }
 }

@@ -65,7 +65,7 @@ impl Asked {
     fn of_files(&self, files: &[File]) -> String {
         let line = |file: &File| {
             let pick = self.pick(file.summary.as_ref());
-            format!("{} {}\n", file.word, word(pick))
+            format!("{} {pick}\n", file.word)
         };
         files.iter().map(line).collect()
     }
@@ -75,7 +75,7 @@ impl Asked {
         let pooled = pooled(files);
         let pick = self.pick(pooled.as_ref());
         let name = pooled.map_or(NOT_POOLED.to_string(), |summary| summary.to_string());
-        let line = format!("group {name}: {}\n", word(pick));
+        let line = format!("group {name}: {pick}\n");
         match pick {
             Pick::Skip => line,
             Pick::Read | Pick::Whole => line + &self.of_files(files),
@@ -113,14 +113,5 @@ fn summary(partition_type: Type, word: &str) -> Result<Summary, String> {
         EMPTY_FILE => Ok(none_present),
         MISSING => Ok(none_present.with_missing(true)),
         _ => Err(format!("`{word}` is no file")),
-    }
-}
-
-/// A pick in a word.
-fn word(pick: Pick) -> &'static str {
-    match pick {
-        Pick::Skip => "skip",
-        Pick::Read => "read",
-        Pick::Whole => "whole",
     }
 }
