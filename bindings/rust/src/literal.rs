@@ -1,7 +1,7 @@
 //! Literals: what leaves and predicates compare with.
 
-use crate::record::{put_content, put_int, put_long, Record};
-use crate::{Type, ValueError};
+use crate::record::{put_content, put_int, put_long, Record, CONTENT_MAX};
+use crate::{Refusal, Type, ValueError};
 
 /// A literal of a leaf or predicate, or a present value, with its type.
 ///
@@ -11,6 +11,7 @@ use crate::{Type, ValueError};
 /// use weighpick::{Literal, Type};
 ///
 /// assert_eq!(Literal::from("ab12").column_type(), Type::String);
+/// assert_eq!(Literal::from(300_i64), Literal::Long(300));
 /// assert_eq!(Literal::Date(31).to_string(), "date 31");
 /// assert_eq!(Literal::from("ab12").to_string(), "string \"ab12\"");
 /// assert_eq!("binary 0x00ff".parse(), Ok(Literal::binary([0, 255])));
@@ -88,12 +89,29 @@ impl Literal {
         Ok(())
     }
 
-    /// The literal of a type with this content; none where the content is not of the type.
+    /// The literal of a type with the content of a record: a number's bytes, the lowest first, or those of a String or Binary. The
+    /// crate iceberg's `Datum::to_bytes` gives the same bytes, as file lists have them.
+    ///
+    /// # Errors
+    ///
+    /// [`Refusal::Malformed`] where the length is not the type's, so that the 4 bytes of an Int are no Long, or above
+    /// [`CONTENT_MAX`], and [`Refusal::NotUtf8`]. The library refuses a record with this content so.
+    ///
+    /// ```
+    /// use weighpick::{Literal, Refusal, Type};
+    ///
+    /// assert_eq!(Literal::from_content(Type::Int, &[44, 1, 0, 0]), Ok(Literal::Int(300)));
+    /// assert_eq!(Literal::from_content(Type::String, b"ab12"), Ok(Literal::from("ab12")));
+    /// assert_eq!(Literal::from_content(Type::Long, &[44, 1, 0, 0]), Err(Refusal::Malformed));
+    /// ```
     #[inline]
-    pub(crate) fn from_content(column_type: Type, content: &[u8]) -> Option<Literal> {
-        let int = || Some(i32::from_le_bytes(content.try_into().ok()?));
-        let long = || Some(i64::from_le_bytes(content.try_into().ok()?));
-        Some(match column_type {
+    pub fn from_content(column_type: Type, content: &[u8]) -> Result<Literal, Refusal> {
+        let int = || number(content).map(i32::from_le_bytes);
+        let long = || number(content).map(i64::from_le_bytes);
+        if content.len() > CONTENT_MAX {
+            return Err(Refusal::Malformed);
+        }
+        Ok(match column_type {
             Type::Int => Literal::Int(int()?),
             Type::Long => Literal::Long(long()?),
             Type::Date => Literal::Date(int()?),
@@ -102,9 +120,31 @@ impl Literal {
             Type::Timestamptz => Literal::Timestamptz(long()?),
             Type::TimestampNs => Literal::TimestampNs(long()?),
             Type::TimestamptzNs => Literal::TimestamptzNs(long()?),
-            Type::String => Literal::string(std::str::from_utf8(content).ok()?),
+            Type::String => {
+                Literal::string(std::str::from_utf8(content).map_err(|_| Refusal::NotUtf8)?)
+            }
             Type::Binary => Literal::binary(content),
         })
+    }
+}
+
+/// The bytes of a number, if there are as many.
+#[inline]
+fn number<const N: usize>(content: &[u8]) -> Result<[u8; N], Refusal> {
+    content.try_into().map_err(|_| Refusal::Malformed)
+}
+
+/// An Int.
+impl From<i32> for Literal {
+    fn from(number: i32) -> Literal {
+        Literal::Int(number)
+    }
+}
+
+/// A Long.
+impl From<i64> for Literal {
+    fn from(number: i64) -> Literal {
+        Literal::Long(number)
     }
 }
 
@@ -112,5 +152,12 @@ impl Literal {
 impl From<&str> for Literal {
     fn from(text: &str) -> Literal {
         Literal::string(text)
+    }
+}
+
+/// A String.
+impl From<String> for Literal {
+    fn from(text: String) -> Literal {
+        Literal::String(text)
     }
 }

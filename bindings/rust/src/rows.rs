@@ -4,6 +4,7 @@ use std::fmt::{self, Debug, Formatter};
 
 use crate::columns::COLUMNS_MAX;
 use crate::record::{put_missing, Record, EMPTY, RECORD_SIZE};
+use crate::routines::{filter_project, filter_row};
 use crate::{Columns, Refusal, RowError, Type, Value};
 
 /// The types of the values beside a column list, in its order; none behind the last column.
@@ -12,6 +13,9 @@ pub(crate) type Types = [Option<Type>; COLUMNS_MAX];
 /// The records of the values beside a column list, and zeros behind the last column's. They lie in place, so that a row needs no
 /// memory from the heap.
 type Records = [u8; RECORD_SIZE * COLUMNS_MAX];
+
+/// A routine of filters: what it says of a column list, a text and values.
+type Routine = fn(&[u8], &[u8], &[u8]) -> Result<bool, Refusal>;
 
 /// A row of a column list, made by [`Columns::row`].
 #[derive(Clone, PartialEq, Eq, Hash)]
@@ -29,6 +33,26 @@ impl Row {
         values: impl IntoIterator<Item = &'a Value>,
     ) -> Result<Row, RowError> {
         Values::new(columns, columns.row_types(), values).map(Row)
+    }
+
+    /// Reads a row of a column list, as [`as_bytes`](Row::as_bytes) gives it or as another program wrote it.
+    ///
+    /// # Errors
+    ///
+    /// [`Refusal::Malformed`] where there is not one record a column, or one is no value of its column's type, and
+    /// [`Refusal::NotUtf8`]. An Int and a Date, which have the same bytes, are not told apart.
+    ///
+    /// ```
+    /// use weighpick::{Columns, Refusal, Row, Transform, Type};
+    ///
+    /// let columns = Columns::new([("lot", Type::String, Transform::Truncate(4)), ("grams", Type::Int, Transform::Void)])?;
+    /// let row = columns.row(&["ab12x".into(), 501.into()])?;
+    /// assert_eq!(Row::from_bytes(&columns, row.as_bytes())?, row);
+    /// assert_eq!(Row::from_bytes(&columns, &[]), Err(Refusal::Malformed));
+    /// # Ok::<(), weighpick::Error>(())
+    /// ```
+    pub fn from_bytes(columns: &Columns, bytes: &[u8]) -> Result<Row, Refusal> {
+        Values::read(columns, columns.row_types(), bytes, filter_row).map(Row)
     }
 
     /// Its records, as the routines of [`filter`](crate::filter) take them.
@@ -51,6 +75,16 @@ impl Partition {
         values: impl IntoIterator<Item = &'a Value>,
     ) -> Result<Partition, RowError> {
         Values::new(columns, columns.partition_types(), values).map(Partition)
+    }
+
+    /// Reads the partition values of a file, as [`as_bytes`](Partition::as_bytes) gives them or as another program wrote them. Their
+    /// types are those that [`Columns::partition`] asks for.
+    ///
+    /// # Errors
+    ///
+    /// As for [`Row::from_bytes`].
+    pub fn from_bytes(columns: &Columns, bytes: &[u8]) -> Result<Partition, Refusal> {
+        Values::read(columns, columns.partition_types(), bytes, filter_project).map(Partition)
     }
 
     /// Their records, as the routines of [`filter`](crate::filter) take them.
@@ -114,6 +148,28 @@ impl Values {
                 records,
             }),
             more => Err(wrong_count(expected + more)),
+        }
+    }
+
+    /// The values in some bytes, in these types, which are those that a routine asks for.
+    fn read(
+        columns: &Columns,
+        types: &Types,
+        bytes: &[u8],
+        routine: Routine,
+    ) -> Result<Values, Refusal> {
+        // The library reads list and values whole before it looks at the text, and an empty text is no filter.
+        match routine(columns.as_bytes(), &[], bytes) {
+            Err(Refusal::OutsideGrammar) => {
+                let mut records = [0; RECORD_SIZE * COLUMNS_MAX];
+                records[..bytes.len()].copy_from_slice(bytes);
+                Ok(Values {
+                    types: *types,
+                    records,
+                })
+            }
+            Err(refusal) => Err(refusal),
+            Ok(_) => unreachable!("an empty text is no filter"),
         }
     }
 

@@ -158,7 +158,7 @@ impl Sheet {
             bytes
                 .first_chunk()
                 .and_then(content)
-                .and_then(|content| Literal::from_content(self.column_type(), content))
+                .and_then(|content| Literal::from_content(self.column_type(), content).ok())
                 .expect("every literal of a sheet has the column's type")
         })
     }

@@ -35,7 +35,7 @@ const EMPTY_FILE: &str = "empty";
 /// What a file list says of a file: the lowest and the highest of its present values, and whether a missing one occurs.
 ///
 /// The values are partition values, for the predicates of projections, or a column's own, for a [`Leaf`](crate::Leaf). A file whose
-/// ends are not known has no summary and has to be read; [`empty`](Summary::empty) says that there is no present value.
+/// ends are not known has no summary and has to be read, as [`from_ends`](Summary::from_ends) says.
 ///
 /// Whether the lowest is above the highest is left to the test, which answers [`Refusal::WrongSummary`]. The text of a summary is
 /// read back:
@@ -63,6 +63,31 @@ impl Summary {
         lowest.put(column_type, summary.record_mut(LOWEST))?;
         highest.put(column_type, summary.record_mut(HIGHEST))?;
         Ok(summary)
+    }
+
+    /// The summary of a file of which an end may not be known: both ends, else none, and the file is read. Two unknown ends are no
+    /// empty file: that would be skipped, and [`empty`](Summary::empty) alone says it.
+    ///
+    /// # Errors
+    ///
+    /// As for [`between`](Summary::between). Such a file is read too.
+    ///
+    /// ```
+    /// use weighpick::{Literal, Summary};
+    ///
+    /// let (lowest, highest) = (Literal::Int(-20), Literal::Int(290));
+    /// assert!(Summary::from_ends(Some(&lowest), Some(&highest))?.is_some());
+    /// assert_eq!(Summary::from_ends(Some(&lowest), None)?, None);
+    /// assert_eq!(Summary::from_ends(None, None)?, None);
+    /// # Ok::<(), weighpick::Error>(())
+    /// ```
+    pub fn from_ends(
+        lowest: Option<&Literal>,
+        highest: Option<&Literal>,
+    ) -> Result<Option<Summary>, ValueError> {
+        let ends = lowest.zip(highest);
+        let summary = ends.map(|(lowest, highest)| Summary::between(lowest, highest));
+        summary.transpose()
     }
 
     /// The summary of an empty file: no value is present, and none is missing.

@@ -15,6 +15,7 @@ use crate::{Literal, Refusal, Transform, Type, ValueError};
 ///
 /// assert_eq!(Value::from(None), Value::Missing);
 /// assert_eq!(Value::from(Some(Literal::Int(287))), grams);
+/// assert_eq!(Value::from(287), grams);
 /// assert_eq!(Value::from("ab12"), Value::Present(Literal::string("ab12")));
 /// assert_eq!("int 287".parse(), Ok(grams));
 /// assert_eq!("missing".parse(), Ok(Value::Missing));
@@ -41,9 +42,30 @@ impl From<Option<Literal>> for Value {
     }
 }
 
+/// An Int.
+impl From<i32> for Value {
+    fn from(number: i32) -> Value {
+        Value::Present(number.into())
+    }
+}
+
+/// A Long.
+impl From<i64> for Value {
+    fn from(number: i64) -> Value {
+        Value::Present(number.into())
+    }
+}
+
 /// A String.
 impl From<&str> for Value {
     fn from(text: &str) -> Value {
+        Value::Present(text.into())
+    }
+}
+
+/// A String.
+impl From<String> for Value {
+    fn from(text: String) -> Value {
         Value::Present(text.into())
     }
 }

@@ -5,7 +5,7 @@ mod support;
 use support::files::{all_ends, file, file_of};
 use support::sample::Random;
 use weighpick::sheet::CONTENT_MAX;
-use weighpick::{Literal, Summary, Type, Value, ValueError};
+use weighpick::{Leaf, Literal, Pick, Summary, Type, Value, ValueError};
 
 #[test]
 fn bytes_and_texts() {
@@ -77,6 +77,22 @@ fn ends_are_of_one_type_and_fit() {
         assert_eq!(wrong, Err(ValueError::TooLong(CONTENT_MAX + 1)));
     }
     assert!(Summary::between(&short, &short).is_ok());
+}
+
+/// A file of which an end is not known is not one without values, which would be skipped.
+#[test]
+fn ends_that_are_not_known() {
+    let (lowest, highest) = (Literal::Int(3), Literal::Int(7));
+    let known = Summary::from_ends(Some(&lowest), Some(&highest));
+    assert_eq!(known, Summary::between(&lowest, &highest).map(Some));
+    assert_eq!(Summary::from_ends(Some(&lowest), None), Ok(None));
+    assert_eq!(Summary::from_ends(None, Some(&highest)), Ok(None));
+    assert_eq!(Summary::from_ends(None, None), Ok(None));
+    let wrong = Summary::from_ends(Some(&lowest), Some(&Literal::Date(7)));
+    assert_eq!(wrong, Err(ValueError::WrongType(Type::Int, Type::Date)));
+    let picker = "int identity = 5".parse::<Leaf>().expect("a leaf").picker();
+    let empty = picker.pick_summary(&Summary::empty(Type::Int));
+    assert_eq!(empty, Ok(Pick::Skip));
 }
 
 #[test]
