@@ -93,11 +93,13 @@ impl Columns {
     }
 
     /// Its bytes, as the routines of [`filter`](crate::filter) take them.
+    #[must_use]
     pub fn as_bytes(&self) -> &[u8] {
         &self.bytes
     }
 
     /// Its columns: name, type and transform.
+    #[must_use]
     pub fn iter(&self) -> impl ExactSizeIterator<Item = (&str, Type, Transform)> + '_ {
         entries(&self.bytes)
     }

@@ -118,26 +118,31 @@ impl Leaf {
     }
 
     /// Its sheet, as the routines of [`sheet`](crate::sheet) take it.
+    #[must_use]
     pub fn as_bytes(&self) -> &[u8] {
         self.sheet.as_bytes()
     }
 
     /// Its operator.
+    #[must_use]
     pub fn operator(&self) -> PredicateOperator {
         self.sheet.operator()
     }
 
     /// The column's type.
+    #[must_use]
     pub fn column_type(&self) -> Type {
         self.sheet.column_type()
     }
 
     /// The transform that splits the table.
+    #[must_use]
     pub fn transform(&self) -> Transform {
         self.sheet.transform()
     }
 
     /// Its literals, as they were given.
+    #[must_use]
     pub fn literals(&self) -> impl ExactSizeIterator<Item = Literal> + '_ {
         self.sheet.literals()
     }

@@ -52,6 +52,7 @@ impl Literal {
     }
 
     /// Its type.
+    #[must_use]
     pub fn column_type(&self) -> Type {
         match self {
             Literal::Int(_) => Type::Int,

@@ -59,33 +59,39 @@ impl PredicateOperator {
     ];
 
     /// Its number in a sheet.
+    #[must_use]
     pub fn number(self) -> u16 {
         self as u16
     }
 
     /// The operator with a number of document 01's list.
+    #[must_use]
     pub fn from_number(number: u16) -> Option<PredicateOperator> {
         let mut all = PredicateOperator::ALL.into_iter();
         all.find(|operator| operator.number() == number)
     }
 
     /// Whether it takes no literal.
+    #[must_use]
     pub fn is_unary(self) -> bool {
         self.number() < PredicateOperator::LessThan.number()
     }
 
     /// Whether it takes one literal.
+    #[must_use]
     pub fn is_binary(self) -> bool {
         !self.is_unary() && !self.is_set()
     }
 
     /// Whether it takes a set of literals.
+    #[must_use]
     pub fn is_set(self) -> bool {
         self.number() >= PredicateOperator::In.number()
     }
 
     /// The operator that a present value meets where it does not meet this one; it takes as many literals. A missing value, too,
     /// meets one of the two, but neither of `<` and `>=`, of `<=` and `>`, and of IsNan and NotNan.
+    #[must_use]
     pub fn negate(self) -> PredicateOperator {
         use PredicateOperator::*;
         match self {

@@ -38,6 +38,7 @@ pub struct Picker {
 impl Leaf {
     /// Asks both projections, for picking files by their partition values or summaries. Where older writers may have written them,
     /// [`older_picker`](Leaf::older_picker) is to be asked.
+    #[must_use]
     pub fn picker(&self) -> Picker {
         self.picker_with(self.strict_project())
     }
@@ -64,6 +65,7 @@ impl Leaf {
     /// }
     /// # Ok::<(), weighpick::Error>(())
     /// ```
+    #[must_use]
     pub fn older_picker(&self) -> Picker {
         self.picker_with(self.strict_project_older())
     }

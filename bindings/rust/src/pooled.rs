@@ -17,12 +17,14 @@ impl Whose {
     pub const ALL: [Whose; 2] = [Whose::First, Whose::Second];
 
     /// Its number, as the library says it.
+    #[must_use]
     pub fn number(self) -> u64 {
         self as u64
     }
 
     /// The file with one of the two numbers.
     #[inline]
+    #[must_use]
     pub fn from_number(number: u64) -> Option<Whose> {
         match number {
             0 => Some(Whose::First),

@@ -50,21 +50,25 @@ impl Predicate {
     }
 
     /// Its answer sheet.
+    #[must_use]
     pub fn as_bytes(&self) -> &[u8] {
         self.sheet.as_bytes()
     }
 
     /// Its operator.
+    #[must_use]
     pub fn operator(&self) -> PredicateOperator {
         self.sheet.operator()
     }
 
     /// The type of the partition values: the transform's result type.
+    #[must_use]
     pub fn column_type(&self) -> Type {
         self.sheet.column_type()
     }
 
     /// Its literals; a projection gives them ascending and without repeats.
+    #[must_use]
     pub fn literals(&self) -> impl ExactSizeIterator<Item = Literal> + '_ {
         self.sheet.literals()
     }

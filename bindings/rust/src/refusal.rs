@@ -62,11 +62,13 @@ impl Refusal {
     ];
 
     /// Document 01's number.
+    #[must_use]
     pub fn number(self) -> u32 {
         self as u32
     }
 
     /// The refusal with one of the documents' numbers.
+    #[must_use]
     pub fn from_number(number: u32) -> Option<Refusal> {
         let mut all = Refusal::ALL.iter().copied();
         all.find(|refusal| refusal.number() == number)

@@ -56,6 +56,7 @@ impl Row {
     }
 
     /// Its records, as the routines of [`filter`](crate::filter) take them.
+    #[must_use]
     pub fn as_bytes(&self) -> &[u8] {
         self.0.as_bytes()
     }
@@ -88,6 +89,7 @@ impl Partition {
     }
 
     /// Their records, as the routines of [`filter`](crate::filter) take them.
+    #[must_use]
     pub fn as_bytes(&self) -> &[u8] {
         self.0.as_bytes()
     }

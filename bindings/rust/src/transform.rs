@@ -42,6 +42,7 @@ const WITHOUT_WIDTH: [Transform; 7] = [
 
 impl Transform {
     /// Its number in a sheet.
+    #[must_use]
     pub fn number(self) -> u8 {
         match self {
             Transform::Identity => 0,
@@ -56,6 +57,7 @@ impl Transform {
     }
 
     /// Its width in a sheet; 0 unless it is Truncate.
+    #[must_use]
     pub fn width(self) -> u32 {
         match self {
             Transform::Truncate(width) => width,
@@ -64,6 +66,7 @@ impl Transform {
     }
 
     /// The transform with a number of document 01's list and a width.
+    #[must_use]
     pub fn from_numbers(number: u8, width: u32) -> Option<Transform> {
         let found = match number {
             0 => Transform::Identity,

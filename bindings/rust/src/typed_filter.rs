@@ -69,11 +69,13 @@ impl<'a> Filter<'a> {
     }
 
     /// The columns.
+    #[must_use]
     pub fn columns(&self) -> &'a Columns {
         self.columns
     }
 
     /// The text.
+    #[must_use]
     pub fn text(&self) -> &'a [u8] {
         self.text
     }
@@ -126,6 +128,7 @@ impl<'a> Filter<'a> {
     /// assert_eq!(filter.pick(&file), Pick::Read);
     /// # Ok::<(), weighpick::Error>(())
     /// ```
+    #[must_use]
     pub fn pick(&self, partition: &Partition) -> Pick {
         if self.project(partition) == Ok(false) {
             Pick::Skip
@@ -150,6 +153,7 @@ impl<'a> Filter<'a> {
     /// assert_eq!(filter.pick_older(&file(-1)?), Pick::Skip);
     /// # Ok::<(), weighpick::Error>(())
     /// ```
+    #[must_use]
     pub fn pick_older(&self, partition: &Partition) -> Pick {
         match self.project(partition) {
             Ok(false) => Pick::Skip,

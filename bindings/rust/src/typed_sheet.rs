@@ -21,6 +21,7 @@ pub struct Sheet {
 
 impl Sheet {
     /// A sheet without literals.
+    #[must_use]
     pub fn new(operator: PredicateOperator, column_type: Type, transform: Transform) -> Sheet {
         let bytes = Bytes::one(head_record(0, operator, column_type, transform));
         Sheet { bytes }
@@ -107,6 +108,7 @@ impl Sheet {
     }
 
     /// Its bytes, as the routines take them.
+    #[must_use]
     pub fn as_bytes(&self) -> &[u8] {
         self.bytes.as_slice()
     }
@@ -118,6 +120,7 @@ impl Sheet {
     }
 
     /// Its operator.
+    #[must_use]
     pub fn operator(&self) -> PredicateOperator {
         record::operator(self.head()).expect("every operator of a sheet is listed")
     }
@@ -132,26 +135,31 @@ impl Sheet {
     }
 
     /// The type of its literals and of the values that it is asked about.
+    #[must_use]
     pub fn column_type(&self) -> Type {
         record::column_type(self.head()).expect("every type of a sheet is listed")
     }
 
     /// Its transform; Identity in an answer sheet.
+    #[must_use]
     pub fn transform(&self) -> Transform {
         record::transform(self.head()).expect("every transform of a sheet is listed")
     }
 
     /// How many literals it has.
+    #[must_use]
     pub fn len(&self) -> usize {
         self.as_bytes().len() / RECORD_SIZE - 1
     }
 
     /// Whether it has no literals.
+    #[must_use]
     pub fn is_empty(&self) -> bool {
         self.len() == 0
     }
 
     /// Its literals, in the order of the chain.
+    #[must_use]
     pub fn literals(&self) -> impl ExactSizeIterator<Item = Literal> + '_ {
         let records = self.as_bytes()[RECORD_SIZE..].chunks_exact(RECORD_SIZE);
         records.map(|bytes| {

@@ -91,6 +91,7 @@ impl Summary {
     }
 
     /// The summary of an empty file: no value is present, and none is missing.
+    #[must_use]
     pub fn empty(column_type: Type) -> Summary {
         let mut summary = Summary::new(column_type, NONE_PRESENT);
         put_missing(summary.record_mut(LOWEST));
@@ -194,16 +195,19 @@ impl Summary {
     }
 
     /// Its bytes, as the routines of [`summary`](crate::summary) take them.
+    #[must_use]
     pub fn as_bytes(&self) -> &[u8] {
         &self.bytes
     }
 
     /// The type of the values.
+    #[must_use]
     pub fn column_type(&self) -> Type {
         Type::from_number(self.bytes[TYPE_AT]).expect("the type of a summary is listed")
     }
 
     /// The lowest and the highest of the present values, if there are any.
+    #[must_use]
     pub fn ends(&self) -> Option<(Literal, Literal)> {
         Some((self.end(LOWEST)?, self.end(HIGHEST)?))
     }
@@ -216,6 +220,7 @@ impl Summary {
     }
 
     /// Whether a missing value occurs.
+    #[must_use]
     pub fn has_missing(&self) -> bool {
         self.bytes[FLAG_AT] & HAS_MISSING != 0
     }

@@ -47,11 +47,13 @@ impl Type {
     ];
 
     /// Its number in a sheet.
+    #[must_use]
     pub fn number(self) -> u8 {
         self as u8
     }
 
     /// The type with a number of document 01's list.
+    #[must_use]
     pub fn from_number(number: u8) -> Option<Type> {
         let before = usize::from(number).checked_sub(1)?;
         Type::ALL.get(before).copied()

@@ -25,12 +25,14 @@ impl Verdict {
     pub const ALL: [Verdict; 3] = [Verdict::Skip, Verdict::Read, Verdict::Whole];
 
     /// Document 02's number, the byte that is written.
+    #[must_use]
     pub fn number(self) -> u8 {
         self as u8
     }
 
     /// The verdict with one of document 02's numbers.
     #[inline]
+    #[must_use]
     pub fn from_number(number: u8) -> Option<Verdict> {
         Verdict::ALL.get(usize::from(number)).copied()
     }
