@@ -44,6 +44,10 @@ pub struct Columns {
 
 impl Columns {
     /// A list of columns, each a name, a type and a transform.
+    ///
+    /// # Errors
+    ///
+    /// By the first column that is against a list's rules, or [`ColumnError::NoColumn`].
     pub fn new<'a>(
         columns: impl IntoIterator<Item = (&'a str, Type, Transform)>,
     ) -> Result<Columns, ColumnError> {
@@ -68,6 +72,10 @@ impl Columns {
     }
 
     /// Reads a column list, as [`as_bytes`](Columns::as_bytes) gives it or as another program wrote it.
+    ///
+    /// # Errors
+    ///
+    /// [`Refusal::Malformed`].
     pub fn from_bytes(bytes: &[u8]) -> Result<Columns, Refusal> {
         // The library reads list and values whole before it looks at the text, and an empty text is no filter.
         let count = (bytes.len() / COLUMN_SIZE).min(COLUMNS_MAX);
@@ -114,6 +122,10 @@ impl Columns {
     /// assert!(columns.row(&[Value::Missing, Value::Missing]).is_ok());
     /// # Ok::<(), weighpick::Error>(())
     /// ```
+    ///
+    /// # Errors
+    ///
+    /// [`RowError::WrongCount`], or [`RowError::Value`] of the first value that is none of its column.
     pub fn row<'a>(&self, values: impl IntoIterator<Item = &'a Value>) -> Result<Row, RowError> {
         Row::new(self, values)
     }
@@ -131,6 +143,10 @@ impl Columns {
     /// assert!(columns.partition(&["ab12".into(), Literal::Int(1).into()]).is_ok());
     /// # Ok::<(), weighpick::Error>(())
     /// ```
+    ///
+    /// # Errors
+    ///
+    /// As for [`row`](Columns::row).
     pub fn partition<'a>(
         &self,
         values: impl IntoIterator<Item = &'a Value>,

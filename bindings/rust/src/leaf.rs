@@ -41,6 +41,10 @@ impl Leaf {
     /// assert!(Leaf::unary(PredicateOperator::Eq, Type::Date, Transform::Month).is_err());
     /// # Ok::<(), weighpick::Error>(())
     /// ```
+    ///
+    /// # Errors
+    ///
+    /// [`LeafError::WrongOperator`].
     #[inline]
     pub fn unary(
         operator: PredicateOperator,
@@ -65,6 +69,10 @@ impl Leaf {
     /// assert_eq!(lots.strict_project()?, None);
     /// # Ok::<(), weighpick::Error>(())
     /// ```
+    ///
+    /// # Errors
+    ///
+    /// [`LeafError::WrongOperator`], and [`LeafError::TooLong`] of a String or Binary.
     #[inline]
     pub fn binary(
         operator: PredicateOperator,
@@ -78,7 +86,10 @@ impl Leaf {
         Ok(Leaf { sheet })
     }
 
-    /// A leaf with a set of at most [`LITERALS_MAX`](crate::sheet::LITERALS_MAX) literals, repeats among them: In, NotIn.
+    /// A leaf with a set of at most [`LITERALS_MAX`](crate::sheet::LITERALS_MAX) literals, 64, repeats among them: In, NotIn.
+    ///
+    /// More of them are asked in several leaves, and the picks joined: those of In by [`Pick::or`](crate::Pick::or), those of NotIn
+    /// by [`Pick::and`](crate::Pick::and).
     ///
     /// ```
     /// use weighpick::{Leaf, Literal, PredicateOperator, Transform, Type};
@@ -89,6 +100,11 @@ impl Leaf {
     /// assert_eq!(read.literals().collect::<Vec<_>>(), [Literal::Date(0), Literal::Date(1)]);
     /// # Ok::<(), weighpick::Error>(())
     /// ```
+    ///
+    /// # Errors
+    ///
+    /// [`LeafError::WrongOperator`], [`LeafError::TooMany`] and, of the first literal that is none of the column,
+    /// [`LeafError::WrongType`] or [`LeafError::TooLong`].
     pub fn set<'a>(
         operator: PredicateOperator,
         column_type: Type,
@@ -109,6 +125,10 @@ impl Leaf {
     }
 
     /// Reads the sheet of a leaf, as [`as_bytes`](Leaf::as_bytes) gives it or as another program wrote it.
+    ///
+    /// # Errors
+    ///
+    /// [`Refusal::Malformed`] and [`Refusal::NotUtf8`].
     pub fn from_bytes(bytes: &[u8]) -> Result<Leaf, Refusal> {
         if bytes.len() > SHEET_MAX {
             return Err(Refusal::Malformed);
@@ -171,6 +191,10 @@ impl Leaf {
     /// The inclusive projection: a predicate that accepts the partition value of every row that meets the leaf, or none.
     ///
     /// After `Ok(None)` and after a refusal every file has to be read; [`picker`](Leaf::picker) sees to it.
+    ///
+    /// # Errors
+    ///
+    /// [`Refusal::NoResultType`], [`Refusal::FeatureUnsupported`], [`Refusal::DataInvalid`] and [`Refusal::Overflow`].
     pub fn project(&self) -> Result<Option<Predicate>, Refusal> {
         project(Question::Inclusive, self.as_bytes(), Predicate::answered)
     }
@@ -178,6 +202,10 @@ impl Leaf {
     /// The strict projection: a predicate that accepts only partition values all of whose rows meet the leaf, or none.
     ///
     /// It does not hold of files of older writers, for which there is [`strict_project_older`](Leaf::strict_project_older).
+    ///
+    /// # Errors
+    ///
+    /// The same refusals as of [`project`](Leaf::project), but not of the same leaves.
     pub fn strict_project(&self) -> Result<Option<Predicate>, Refusal> {
         project(Question::Strict, self.as_bytes(), Predicate::answered)
     }
@@ -187,7 +215,7 @@ impl Leaf {
     ///
     /// Such writers rounded Year, Month and, of Timestamp alone, Day toward zero, so that a row with a negative partition value may
     /// lie under it or under the next. [`project`](Leaf::project) loses no such row. Under every other transform this is
-    /// [`strict_project`](Leaf::strict_project), and it is refused where that is.
+    /// [`strict_project`](Leaf::strict_project).
     ///
     /// ```
     /// use weighpick::Leaf;
@@ -202,11 +230,19 @@ impl Leaf {
     /// assert_eq!(older.to_string(), "int NOT IN (-1, 0)");
     /// # Ok::<(), weighpick::Error>(())
     /// ```
+    ///
+    /// # Errors
+    ///
+    /// Where [`strict_project`](Leaf::strict_project) is refused, and with the same refusal.
     pub fn strict_project_older(&self) -> Result<Option<Predicate>, Refusal> {
         project(Question::Older, self.as_bytes(), Predicate::answered)
     }
 
     /// Whether a row with this value meets the leaf.
+    ///
+    /// # Errors
+    ///
+    /// A value of another type than the column's, and a String or Binary that is too long for a record.
     pub fn holds(&self, value: &Value) -> Result<bool, ValueError> {
         let mut record = EMPTY;
         value.put(self.column_type(), &mut record)?;
@@ -214,8 +250,7 @@ impl Leaf {
     }
 
     /// What it says of rows by the summary of their values in this column, not of partition values: those are for
-    /// [`Picker::pick_summary`](crate::Picker::pick_summary). A summary of another type, or one whose lowest is above its highest,
-    /// is [`Refusal::WrongSummary`].
+    /// [`Picker::pick_summary`](crate::Picker::pick_summary).
     ///
     /// ```
     /// use weighpick::{Leaf, Refusal, Summary, Verdict};
@@ -228,6 +263,10 @@ impl Leaf {
     /// assert_eq!(leaf.test_summary(&rows("int 1 to 1")?), Err(Refusal::WrongSummary));
     /// # Ok::<(), weighpick::Error>(())
     /// ```
+    ///
+    /// # Errors
+    ///
+    /// [`Refusal::WrongSummary`] of a summary of another type, or one whose lowest is above its highest.
     #[inline]
     pub fn test_summary(&self, summary: &Summary) -> Result<Verdict, Refusal> {
         test_summary(self.as_bytes(), summary.as_bytes())

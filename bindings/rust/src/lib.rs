@@ -12,7 +12,7 @@
 //!
 //! let picker = leaf.picker(); // asks both projections, once
 //! for (partition_value, expected) in [(290, Pick::Whole), (300, Pick::Skip)] {
-//!     let pick = picker.pick(&Literal::Int(partition_value).into())?;
+//!     let pick = picker.pick(&partition_value.into()).unwrap_or(Pick::Read);
 //!     assert_eq!(pick, expected);
 //! }
 //!
@@ -24,15 +24,28 @@
 //!
 //! A file may be passed over only where [`Predicate::holds`] of the inclusive projection is `Ok(false)`, or its
 //! [`test_summary`](Predicate::test_summary) is `Ok(Verdict::Skip)`. Without a predicate (`Ok(None)`), and after a [`Refusal`],
-//! every file is read. [`Picker`] keeps this rule; where it refuses a summary, `.unwrap_or(Pick::Read)` does. A `?` after
-//! [`project`](Leaf::project) would end the query instead.
+//! every file is read. [`Picker`] keeps this rule; where it takes a value or a summary for none of the table's,
+//! `.unwrap_or(Pick::Read)` does. A `?` would end the query instead. The picks of several leaves are joined by [`Pick::and`] and
+//! [`Pick::or`].
 //!
-//! This crate only turns types into bytes and back. Every answer is given by the static library `weighpick_c`, whose routines are
-//! proved: they take bytes of every kind, keep no state and may be called from several threads at once. `docs/FORMAT.md` in the
-//! repository says what lies in sheets, records, filters, summaries and answers; "document 01" in these pages is the customer's
-//! paper behind it, and "document 02" the one on filters and summaries.
+//! `docs/FORMAT.md` in the repository says what lies in sheets, records, filters, summaries and answers; "document 01" in these pages
+//! is the customer's paper behind it, and "document 02" the one on filters and summaries.
 //!
 //! [`sheet`] has the same over bytes, for callers that keep their buffers. [`Error`] takes every error of this crate.
+//!
+//! # What is proved
+//!
+//! Every answer is given by the static library `weighpick_c`. Its routines are proved: that the predicates, the verdicts and a
+//! filter's answers lose no row, for bytes of every kind. They keep no state, and may be called from several threads at once. This
+//! crate's own code is not proved but tested: it turns types into bytes and back, and keeps the rule above in [`Picker::pick`],
+//! [`Picker::pick_summary`] and [`Filter::pick`].
+//!
+//! # Panics
+//!
+//! The first call of the library asks it for its version, and panics where that is not this crate's: of another version nothing is
+//! known that the calls rely on. The library is then to be built anew with `rt staticlib weighpick_c`, or `WEIGHPICK_LIB_DIR` to be
+//! set to the folder of the right one, and the program to be linked again. A library from before 0.9.0 tells no version, and is
+//! refused by the linker.
 //!
 //! # Filters
 //!
@@ -40,19 +53,19 @@
 //! [`Partition`], the partition values of a file, under both questions; [`Filter::pick`] keeps the rule above for it.
 //!
 //! ```
-//! use weighpick::{Columns, Filter, Literal, Pick, Transform, Type};
+//! use weighpick::{Columns, Filter, Pick, Transform, Type};
 //!
 //! let lot = ("lot", Type::String, Transform::Truncate(4));
 //! let grams = ("grams", Type::Int, Transform::Truncate(10));
 //! let columns = Columns::new([lot, grams])?;
 //! let filter = Filter::new(&columns, "lot startswith 'ab' and not (grams < 300 or grams = 500)");
-//! filter.check()?; // tells whoever typed it
+//! filter.check()?; // whether it is a filter, for whoever typed it
 //!
 //! for (partition_value, expected) in [(310, Pick::Whole), (500, Pick::Read), (290, Pick::Skip)] {
-//!     let file = columns.partition(&["ab12".into(), Literal::Int(partition_value).into()])?;
-//!     assert_eq!(filter.pick(&file), expected);
+//!     let file = columns.partition(&["ab12".into(), partition_value.into()]);
+//!     assert_eq!(file.map_or(Pick::Read, |file| filter.pick(&file)), expected);
 //! }
-//! let row = columns.row(&["ab12x".into(), Literal::Int(501).into()])?;
+//! let row = columns.row(&["ab12x".into(), 501.into()])?;
 //! assert!(filter.row(&row)?);
 //! # Ok::<(), weighpick::Error>(())
 //! ```
@@ -69,7 +82,7 @@
 //! let picker = "int truncate[10] < 295".parse::<Leaf>()?.picker();
 //! for (lowest, highest, expected) in [(0, 280, Pick::Whole), (0, 450, Pick::Read), (300, 450, Pick::Skip)] {
 //!     let file = Summary::between(&Literal::Int(lowest), &Literal::Int(highest))?;
-//!     assert_eq!(picker.pick_summary(&file)?, expected);
+//!     assert_eq!(picker.pick_summary(&file).unwrap_or(Pick::Read), expected);
 //! }
 //! # Ok::<(), weighpick::Error>(())
 //! ```
@@ -89,7 +102,7 @@
 //! // Weighings since 1970, in a table split by day.
 //! let leaf: Leaf = "timestamp day >= 0".parse()?;
 //! for (day, expected) in [("date -1", Pick::Skip), ("date 0", Pick::Read), ("date 1", Pick::Whole)] {
-//!     assert_eq!(leaf.older_picker().pick(&day.parse()?)?, expected);
+//!     assert_eq!(leaf.older_picker().pick(&day.parse()?).unwrap_or(Pick::Read), expected);
 //! }
 //! # Ok::<(), weighpick::Error>(())
 //! ```

@@ -93,11 +93,6 @@ impl Literal {
     /// The literal of a type with the content of a record: a number's bytes, the lowest first, or those of a String or Binary. The
     /// crate iceberg's `Datum::to_bytes` gives the same bytes, as file lists have them.
     ///
-    /// # Errors
-    ///
-    /// [`Refusal::Malformed`] where the length is not the type's, so that the 4 bytes of an Int are no Long, or above
-    /// [`CONTENT_MAX`], and [`Refusal::NotUtf8`]. The library refuses a record with this content so.
-    ///
     /// ```
     /// use weighpick::{Literal, Refusal, Type};
     ///
@@ -105,6 +100,11 @@ impl Literal {
     /// assert_eq!(Literal::from_content(Type::String, b"ab12"), Ok(Literal::from("ab12")));
     /// assert_eq!(Literal::from_content(Type::Long, &[44, 1, 0, 0]), Err(Refusal::Malformed));
     /// ```
+    ///
+    /// # Errors
+    ///
+    /// [`Refusal::Malformed`] where the length is not the type's, so that the 4 bytes of an Int are no Long, or above
+    /// [`CONTENT_MAX`], and [`Refusal::NotUtf8`]. The library refuses a record with this content so.
     #[inline]
     pub fn from_content(column_type: Type, content: &[u8]) -> Result<Literal, Refusal> {
         let int = || number(content).map(i32::from_le_bytes);

@@ -8,7 +8,7 @@ use crate::{Leaf, Pick, Predicate, Refusal, Summary, Type, Value, ValueError, Ve
 ///
 /// A file is skipped only where there is an inclusive predicate and it does not accept the partition value; it is taken whole only
 /// where there is a strict predicate and it does. So no row is lost where a projection has no predicate or was refused: then every
-/// file is read and filtered.
+/// file is read and filtered. [What is proved](crate#what-is-proved) is the predicates; that this rule loses no row is tested.
 ///
 /// ```
 /// use weighpick::{Leaf, Literal, Pick, PredicateOperator, Transform, Value};
@@ -83,9 +83,14 @@ impl Leaf {
 impl Picker {
     /// What is done with the file of a partition value.
     ///
-    /// Every value of the partition's type has an answer. One of another type is an error, since it is none of this table's; who
-    /// would rather read such a file than end the query writes `.unwrap_or(Pick::Read)`. Where there is no such type, as under
-    /// [`Transform::Unknown`](crate::Transform::Unknown), every value is answered [`Pick::Read`].
+    /// Where partition values have no type, as under [`Transform::Unknown`](crate::Transform::Unknown), every value is answered
+    /// [`Pick::Read`].
+    ///
+    /// # Errors
+    ///
+    /// [`ValueError::WrongType`] of a value of another type, which is none of this table's, and [`ValueError::TooLong`] of a String
+    /// or Binary of more than [`CONTENT_MAX`](crate::sheet::CONTENT_MAX) bytes, which a table may well have. A `?` would end the
+    /// query there; `.unwrap_or(Pick::Read)` reads the file.
     pub fn pick(&self, partition_value: &Value) -> Result<Pick, ValueError> {
         let Some(partition_type) = self.partition_type else {
             return Ok(Pick::Read);
@@ -107,9 +112,7 @@ impl Picker {
 
     /// What is done with a file of which only the ends of its partition values are known.
     ///
-    /// A summary of another type than the partition's, or one whose lowest is above its highest, is [`Refusal::WrongSummary`],
-    /// whether there is a predicate or not; such a file is to be read, which `.unwrap_or(Pick::Read)` says. Where there is no
-    /// such type, every summary is answered [`Pick::Read`].
+    /// Where partition values have no type, every summary is answered [`Pick::Read`].
     ///
     /// ```
     /// use weighpick::{Leaf, Pick, Summary};
@@ -126,6 +129,11 @@ impl Picker {
     /// }
     /// # Ok::<(), weighpick::Error>(())
     /// ```
+    ///
+    /// # Errors
+    ///
+    /// [`Refusal::WrongSummary`] of a summary of another type than the partition's, or one whose lowest is above its highest, whether
+    /// there is a predicate or not. Such a file is to be read, which `.unwrap_or(Pick::Read)` says.
     pub fn pick_summary(&self, summary: &Summary) -> Result<Pick, Refusal> {
         let Some(partition_type) = self.partition_type else {
             return Ok(Pick::Read);
@@ -151,11 +159,19 @@ impl Picker {
     }
 
     /// What [`Leaf::project`] answered.
+    ///
+    /// # Errors
+    ///
+    /// The refusal that it was answered with.
     pub fn inclusive(&self) -> Result<Option<&Predicate>, Refusal> {
         answer(&self.inclusive)
     }
 
     /// What [`Leaf::strict_project`] answered; in the picker for files of older writers, [`Leaf::strict_project_older`].
+    ///
+    /// # Errors
+    ///
+    /// The refusal that it was answered with.
     pub fn strict(&self) -> Result<Option<&Predicate>, Refusal> {
         answer(&self.strict)
     }

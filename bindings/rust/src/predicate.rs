@@ -39,8 +39,11 @@ impl Predicate {
         Predicate { sheet }
     }
 
-    /// Reads an answer sheet, as [`as_bytes`](Predicate::as_bytes) gives it or as a routine wrote it to a buffer. A sheet under a
-    /// transform is no answer: [`Refusal::Malformed`].
+    /// Reads an answer sheet, as [`as_bytes`](Predicate::as_bytes) gives it or as a routine wrote it to a buffer.
+    ///
+    /// # Errors
+    ///
+    /// [`Refusal::Malformed`], as of a sheet under a transform, which is no answer, and [`Refusal::NotUtf8`].
     pub fn from_bytes(bytes: &[u8]) -> Result<Predicate, Refusal> {
         let sheet = Sheet::from_bytes(bytes)?;
         if sheet.transform() != Transform::Identity {
@@ -74,6 +77,10 @@ impl Predicate {
     }
 
     /// Whether it accepts a partition value.
+    ///
+    /// # Errors
+    ///
+    /// A value of another type than the partition values', and a String or Binary that is too long for a record.
     pub fn holds(&self, partition_value: &Value) -> Result<bool, ValueError> {
         let mut record = EMPTY;
         partition_value.put(self.column_type(), &mut record)?;
@@ -85,8 +92,7 @@ impl Predicate {
         meets(self.as_bytes(), partition_value)
     }
 
-    /// What it says of a file by the summary of its partition values. A summary of another type, or one whose lowest is above its
-    /// highest, is [`Refusal::WrongSummary`].
+    /// What it says of a file by the summary of its partition values.
     ///
     /// ```
     /// use weighpick::{Leaf, Literal, Summary, Verdict};
@@ -100,6 +106,10 @@ impl Predicate {
     /// assert_eq!(read.test_summary(&file(0, 290)?)?, Verdict::Whole); // which says nothing of its rows: 297 lies at 290
     /// # Ok::<(), weighpick::Error>(())
     /// ```
+    ///
+    /// # Errors
+    ///
+    /// As for [`Leaf::test_summary`](crate::Leaf::test_summary).
     #[inline]
     pub fn test_summary(&self, summary: &Summary) -> Result<Verdict, Refusal> {
         test_summary(self.as_bytes(), summary.as_bytes())

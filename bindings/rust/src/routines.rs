@@ -67,11 +67,21 @@ fn ask_into<'a>(
 /// assert_eq!(answer.literals().collect::<Vec<_>>(), [Literal::Int(-1), Literal::Int(0)]);
 /// # Ok::<(), Box<dyn std::error::Error>>(())
 /// ```
+///
+/// # Errors
+///
+/// [`Refusal::BufferTooSmall`] under [`SHEET_BUFFER`](crate::sheet::SHEET_BUFFER) bytes, [`Refusal::Malformed`] and
+/// [`Refusal::NotUtf8`] of bytes that are no sheet, and what [`Leaf::project`](crate::Leaf::project) is refused with; the first of
+/// these that holds.
 pub fn project_into<'a>(sheet: &[u8], out: &'a mut [u8]) -> Result<Option<&'a [u8]>, Refusal> {
     ask_into(Question::Inclusive, sheet, out)
 }
 
 /// The strict projection of a sheet; the rest is as for [`project_into`].
+///
+/// # Errors
+///
+/// As for [`project_into`], but for what the projection itself is refused with.
 pub fn strict_project_into<'a>(
     sheet: &[u8],
     out: &'a mut [u8],
@@ -95,6 +105,10 @@ pub fn strict_project_into<'a>(
 /// assert_eq!(Predicate::from_bytes(answer)?.to_string(), "date > -1");
 /// # Ok::<(), weighpick::Error>(())
 /// ```
+///
+/// # Errors
+///
+/// As for [`strict_project_into`].
 pub fn strict_project_older_into<'a>(
     sheet: &[u8],
     out: &'a mut [u8],
@@ -129,6 +143,11 @@ pub(crate) fn transform<T, E: From<Refusal>>(
 
 /// The transform of a value record. The partition value's record is written to the start of `out` and handed back; after a refusal
 /// `out` is left as it was.
+///
+/// # Errors
+///
+/// [`Refusal::BufferTooSmall`] under [`VALUE_BUFFER`](crate::sheet::VALUE_BUFFER) bytes, [`Refusal::Malformed`] and
+/// [`Refusal::NotUtf8`] of a record that is no value of the type, and where the value has no partition value.
 pub fn transform_into<'a>(
     transform: Transform,
     column_type: Type,
@@ -150,6 +169,10 @@ fn written(answer: Answer, out: &[u8]) -> Result<&[u8], Refusal> {
 
 /// The holds-test: whether the value in a record meets a sheet's leaf, or an answer sheet's predicate. It takes up to
 /// [`ANSWER_LITERALS_MAX`](crate::sheet::ANSWER_LITERALS_MAX) literals and looks at neither transform nor width.
+///
+/// # Errors
+///
+/// [`Refusal::Malformed`] and [`Refusal::NotUtf8`] of bytes that are no sheet, or no value of its type.
 pub fn holds(sheet: &[u8], value: &[u8]) -> Result<bool, Refusal> {
     said(ffi::holds(sheet, value))
 }
@@ -170,7 +193,7 @@ pub(crate) fn meets(sheet: &[u8], value: &Record) -> bool {
 }
 
 /// The test of a summary: the verdict on a file by a sheet's leaf, or by an answer sheet's predicate. The sheet is one for the
-/// holds-test, of the summary's type; else, and where the lowest is above the highest, it is [`Refusal::WrongSummary`].
+/// holds-test, of the summary's type.
 ///
 /// ```
 /// use weighpick::summary::test_summary;
@@ -182,18 +205,33 @@ pub(crate) fn meets(sheet: &[u8], value: &Record) -> bool {
 /// assert_eq!(test_summary(below_300.as_bytes(), &[]), Err(Refusal::Malformed));
 /// # Ok::<(), weighpick::Error>(())
 /// ```
+///
+/// # Errors
+///
+/// [`Refusal::Malformed`] and [`Refusal::NotUtf8`] of bytes that are no sheet or no summary, and then [`Refusal::WrongSummary`]
+/// where the two have different types, or the lowest is above the highest.
 #[inline]
 pub fn test_summary(sheet: &[u8], summary: &[u8]) -> Result<Verdict, Refusal> {
     let mut out = [0; VERDICT_BUFFER];
-    let verdict = match test_summary_into(sheet, summary, &mut out)? {
+    test_summary_into(sheet, summary, &mut out).map(verdict)
+}
+
+/// The verdict that the library wrote.
+#[inline]
+fn verdict(written: &[u8]) -> Verdict {
+    let verdict = match written {
         [number] => Verdict::from_number(*number),
         _ => None,
     };
-    Ok(verdict.expect("the library writes the number of a verdict"))
+    verdict.expect("the library writes the number of a verdict")
 }
 
 /// The test of a summary into a lent buffer. One byte, the verdict's number, is written to the start of `out` and handed back;
 /// after a refusal `out` is left as it was. The rest is as for [`test_summary`].
+///
+/// # Errors
+///
+/// [`Refusal::BufferTooSmall`] under [`VERDICT_BUFFER`](crate::summary::VERDICT_BUFFER) bytes, and as for [`test_summary`].
 #[inline]
 pub fn test_summary_into<'a>(
     sheet: &[u8],
@@ -208,8 +246,7 @@ pub fn test_summary_into<'a>(
 /// it. Its ends are parts of the two summaries.
 ///
 /// Equal ends are the first file's. A file without present values leaves both ends to the other; where neither has any, they are
-/// the first's. A summary whose lowest is above its highest is [`Refusal::WrongSummary`], and then two of different types are
-/// [`Refusal::DifferentTypes`].
+/// the first's.
 ///
 /// ```
 /// use weighpick::sheet::RECORD_SIZE;
@@ -224,29 +261,36 @@ pub fn test_summary_into<'a>(
 /// assert_eq!(pooled.flag, 1);
 /// # Ok::<(), weighpick::Error>(())
 /// ```
+///
+/// # Errors
+///
+/// [`Refusal::Malformed`] and [`Refusal::NotUtf8`] of bytes that are no summary, then [`Refusal::WrongSummary`] of one whose lowest
+/// is above its highest, and then [`Refusal::DifferentTypes`].
 #[inline]
 pub fn pool<'a>(first: &'a [u8], second: &'a [u8]) -> Result<Pooled<'a>, Refusal> {
     let answer = ffi::pool(first, second);
     match answer.number {
-        RESULT => Ok(pooled([first, second], &answer).expect("the library pools two summaries")),
+        RESULT => Ok(pooled([first, second], &answer)),
         number => Err(refusal(number)),
     }
 }
 
 /// What pooling said, with the ends in the summaries that they are parts of.
 #[inline]
-fn pooled<'a>(summaries: [&'a [u8]; 2], answer: &PoolAnswer) -> Option<Pooled<'a>> {
+fn pooled<'a>(summaries: [&'a [u8]; 2], answer: &PoolAnswer) -> Pooled<'a> {
     let end = |number, place| {
         let whose = Whose::from_number(number)?;
         let record = end_record(summaries[whose as usize], place)?;
         Some(End { whose, record })
     };
-    Some(Pooled {
-        lowest: end(answer.lowest, LOWEST)?,
-        highest: end(answer.highest, HIGHEST)?,
+    let ends = end(answer.lowest, LOWEST).zip(end(answer.highest, HIGHEST));
+    let (lowest, highest) = ends.expect("the library pools two summaries");
+    Pooled {
+        lowest,
+        highest,
         // At most 3.
         flag: answer.flag as u8,
-    })
+    }
 }
 
 /// Whether a row meets a filter. `values` are the records of one value a column, in the order of the list; each has its column's
@@ -262,18 +306,31 @@ fn pooled<'a>(summaries: [&'a [u8]; 2], answer: &PoolAnswer) -> Option<Pooled<'a
 /// assert_eq!(filter_row(columns.as_bytes(), b"grams < 300", &[]), Err(Refusal::Malformed));
 /// # Ok::<(), weighpick::Error>(())
 /// ```
+///
+/// # Errors
+///
+/// [`Refusal::Malformed`] and [`Refusal::NotUtf8`] of bytes that are no column list, or not one value a column, and then
+/// [`Refusal::OutsideGrammar`] and [`Refusal::TooLarge`] of the text.
 pub fn filter_row(columns: &[u8], text: &[u8], values: &[u8]) -> Result<bool, Refusal> {
     said(ffi::filter(Asked::Row, columns, text, values))
 }
 
 /// The inclusive question of a filter: no only where no row of these partition values meets it. Each value has the result type of
 /// its column's transform, else the column's; the rest is as for [`filter_row`].
+///
+/// # Errors
+///
+/// As for [`filter_row`], and where the projection of a leaf is refused; the leftmost such leaf's refusal is the whole's.
 pub fn filter_project(columns: &[u8], text: &[u8], values: &[u8]) -> Result<bool, Refusal> {
     said(ffi::filter(Asked::Inclusive, columns, text, values))
 }
 
 /// The strict question of a filter: yes only where every row of these partition values meets it, which does not hold of files of
 /// older writers, as [`Filter::strict_project`](crate::Filter::strict_project) says. The values are as for [`filter_project`].
+///
+/// # Errors
+///
+/// As for [`filter_project`].
 pub fn filter_strict_project(columns: &[u8], text: &[u8], values: &[u8]) -> Result<bool, Refusal> {
     said(ffi::filter(Asked::Strict, columns, text, values))
 }

@@ -37,11 +37,6 @@ impl Row {
 
     /// Reads a row of a column list, as [`as_bytes`](Row::as_bytes) gives it or as another program wrote it.
     ///
-    /// # Errors
-    ///
-    /// [`Refusal::Malformed`] where there is not one record a column, or one is no value of its column's type, and
-    /// [`Refusal::NotUtf8`]. An Int and a Date, which have the same bytes, are not told apart.
-    ///
     /// ```
     /// use weighpick::{Columns, Refusal, Row, Transform, Type};
     ///
@@ -51,6 +46,11 @@ impl Row {
     /// assert_eq!(Row::from_bytes(&columns, &[]), Err(Refusal::Malformed));
     /// # Ok::<(), weighpick::Error>(())
     /// ```
+    ///
+    /// # Errors
+    ///
+    /// [`Refusal::Malformed`] where there is not one record a column, or one is no value of its column's type, and
+    /// [`Refusal::NotUtf8`]. An Int and a Date, which have the same bytes, are not told apart.
     pub fn from_bytes(columns: &Columns, bytes: &[u8]) -> Result<Row, Refusal> {
         Values::read(columns, columns.row_types(), bytes, filter_row).map(Row)
     }

@@ -82,14 +82,17 @@ impl Transform {
         (found.width() == width).then_some(found)
     }
 
-    /// The type of its partition values. A pair that has none is [`Refusal::NoResultType`], Unknown
-    /// [`Refusal::FeatureUnsupported`].
+    /// The type of its partition values.
     ///
     /// ```
     /// use weighpick::{Transform, Type};
     ///
     /// assert_eq!(Transform::Day.result_type(Type::Timestamp), Ok(Type::Date));
     /// ```
+    ///
+    /// # Errors
+    ///
+    /// [`Refusal::NoResultType`] where the pair has none, and [`Refusal::FeatureUnsupported`] of Unknown.
     pub fn result_type(self, column_type: Type) -> Result<Type, Refusal> {
         use Type::*;
         let timestamp = matches!(
@@ -130,6 +133,10 @@ impl Transform {
     /// assert_eq!(day, Literal::Date(-2).into());
     /// # Ok::<(), weighpick::Error>(())
     /// ```
+    ///
+    /// # Errors
+    ///
+    /// A [`ValueError`](crate::ValueError) where the value is none of the column, and a [`Refusal`] where it has no partition value.
     pub fn transform_literal(self, column_type: Type, value: &Value) -> Result<Value, Error> {
         let mut record = EMPTY;
         value.put(column_type, &mut record)?;

@@ -80,33 +80,45 @@ impl<'a> Filter<'a> {
         self.text
     }
 
-    /// Whether the text is a filter over the columns; else [`Refusal::OutsideGrammar`] or [`Refusal::TooLarge`]. These two hang on
-    /// no value, so that whoever typed the text can be told before a file is looked at.
+    /// Whether the text is a filter over the columns. That hangs on no value, so that whoever typed the text can be told before a
+    /// file is looked at; but not what is wrong with it, nor where.
+    ///
+    /// # Errors
+    ///
+    /// [`Refusal::OutsideGrammar`] or [`Refusal::TooLarge`].
     pub fn check(&self) -> Result<(), Refusal> {
         let values = &missing_records()[..RECORD_SIZE * self.columns.iter().len()];
         filter_row(self.columns.as_bytes(), self.text, values).map(|_| ())
     }
 
-    /// Whether a row meets the filter. The refusals are those of [`check`](Filter::check), and [`Refusal::Malformed`] for a row of
-    /// columns of other types.
+    /// Whether a row meets the filter.
+    ///
+    /// # Errors
+    ///
+    /// As for [`check`](Filter::check), and [`Refusal::Malformed`] for a row of columns of other types.
     pub fn row(&self, row: &Row) -> Result<bool, Refusal> {
         filter_row(self.columns.as_bytes(), self.text, row.of(self.columns)?)
     }
 
-    /// The inclusive question: `Ok(false)` only where no row of a file with these partition values meets the filter.
+    /// The inclusive question: `Ok(false)` only where no row of a file with these partition values meets the filter. After a refusal
+    /// the file has to be read; [`pick`](Filter::pick) sees to it.
     ///
-    /// Beside the refusals that [`row`](Filter::row) has, the projection of a leaf may be refused, and the whole then is, by the
-    /// leftmost such leaf. After a refusal the file has to be read; [`pick`](Filter::pick) sees to it.
+    /// # Errors
+    ///
+    /// As for [`row`](Filter::row), and where the projection of a leaf is refused; the leftmost such leaf's refusal is the whole's.
     pub fn project(&self, partition: &Partition) -> Result<bool, Refusal> {
         let values = partition.of(self.columns)?;
         filter_project(self.columns.as_bytes(), self.text, values)
     }
 
-    /// The strict question: `Ok(true)` only where every row of a file with these partition values meets the filter. The refusals
-    /// are as for [`project`](Filter::project).
+    /// The strict question: `Ok(true)` only where every row of a file with these partition values meets the filter.
     ///
     /// This does not hold of files of older writers ([`Leaf::strict_project_older`](crate::Leaf::strict_project_older)) where the
     /// filter names a column under Year, Month or, of Timestamp alone, Day; what [`project`](Filter::project) says of them does.
+    ///
+    /// # Errors
+    ///
+    /// As for [`project`](Filter::project).
     pub fn strict_project(&self, partition: &Partition) -> Result<bool, Refusal> {
         let values = partition.of(self.columns)?;
         filter_strict_project(self.columns.as_bytes(), self.text, values)

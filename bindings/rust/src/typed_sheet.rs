@@ -54,6 +54,10 @@ impl Sheet {
     }
 
     /// Adds a literal at the end of the chain. It has the column's type, and there are at most [`ANSWER_LITERALS_MAX`].
+    ///
+    /// # Errors
+    ///
+    /// [`LeafError::WrongType`], [`LeafError::TooLong`] and [`LeafError::TooMany`]; the sheet is then as it was.
     pub fn push(&mut self, literal: &Literal) -> Result<(), LeafError> {
         let mut record = EMPTY;
         literal.put(self.column_type(), &mut record)?;
@@ -75,6 +79,10 @@ impl Sheet {
     }
 
     /// Reads the bytes of a sheet: of a leaf, or of an answer. Records off the chain are left out.
+    ///
+    /// # Errors
+    ///
+    /// [`Refusal::Malformed`] and [`Refusal::NotUtf8`].
     pub fn from_bytes(bytes: &[u8]) -> Result<Sheet, Refusal> {
         // The holds-test reads a sheet whole before it answers; a missing value is one of every type.
         let mut missing = EMPTY;
@@ -122,7 +130,7 @@ impl Sheet {
     /// Its operator.
     #[must_use]
     pub fn operator(&self) -> PredicateOperator {
-        record::operator(self.head()).expect("every operator of a sheet is listed")
+        listed(record::operator(self.head()))
     }
 
     /// The same literals with the operator's negation, which takes as many.
@@ -137,13 +145,13 @@ impl Sheet {
     /// The type of its literals and of the values that it is asked about.
     #[must_use]
     pub fn column_type(&self) -> Type {
-        record::column_type(self.head()).expect("every type of a sheet is listed")
+        listed(record::column_type(self.head()))
     }
 
     /// Its transform; Identity in an answer sheet.
     #[must_use]
     pub fn transform(&self) -> Transform {
-        record::transform(self.head()).expect("every transform of a sheet is listed")
+        listed(record::transform(self.head()))
     }
 
     /// How many literals it has.
@@ -162,13 +170,22 @@ impl Sheet {
     #[must_use]
     pub fn literals(&self) -> impl ExactSizeIterator<Item = Literal> + '_ {
         let records = self.as_bytes()[RECORD_SIZE..].chunks_exact(RECORD_SIZE);
-        records.map(|bytes| {
-            bytes
-                .first_chunk()
-                .and_then(content)
-                .and_then(|content| Literal::from_content(self.column_type(), content).ok())
-                .expect("every literal of a sheet has the column's type")
-        })
+        records.map(|record| literal_in(self.column_type(), record))
+    }
+}
+
+/// What a head names. Every sheet was written here, or read by the library, which takes none with another number.
+fn listed<T>(named: Option<T>) -> T {
+    named.expect("what a sheet's head names is listed")
+}
+
+/// The literal in a record of a sheet.
+fn literal_in(column_type: Type, record: &[u8]) -> Literal {
+    let content = record.first_chunk().and_then(content);
+    let literal = content.map(|content| Literal::from_content(column_type, content));
+    match literal {
+        Some(Ok(literal)) => literal,
+        _ => unreachable!("every literal of a sheet has the column's type"),
     }
 }
 

@@ -57,6 +57,10 @@ pub struct Summary {
 
 impl Summary {
     /// The summary of a file whose present values run from the lowest to the highest, two values of one type, with none missing.
+    ///
+    /// # Errors
+    ///
+    /// [`ValueError::WrongType`] of two types, and [`ValueError::TooLong`] of an end that is too long for a record.
     pub fn between(lowest: &Literal, highest: &Literal) -> Result<Summary, ValueError> {
         let column_type = lowest.column_type();
         let mut summary = Summary::new(column_type, 0);
@@ -68,10 +72,6 @@ impl Summary {
     /// The summary of a file of which an end may not be known: both ends, else none, and the file is read. Two unknown ends are no
     /// empty file: that would be skipped, and [`empty`](Summary::empty) alone says it.
     ///
-    /// # Errors
-    ///
-    /// As for [`between`](Summary::between). Such a file is read too.
-    ///
     /// ```
     /// use weighpick::{Literal, Summary};
     ///
@@ -81,6 +81,10 @@ impl Summary {
     /// assert_eq!(Summary::from_ends(None, None)?, None);
     /// # Ok::<(), weighpick::Error>(())
     /// ```
+    ///
+    /// # Errors
+    ///
+    /// As for [`between`](Summary::between). Such a file is read too.
     pub fn from_ends(
         lowest: Option<&Literal>,
         highest: Option<&Literal>,
@@ -110,8 +114,7 @@ impl Summary {
     /// The summary of this file and another together: the lower of the lowest ends, the higher of the highest, missing if either has
     /// it. A file without present values adds only its missing mark, and an empty one nothing.
     ///
-    /// It may hold what either file may hold, and a predicate that skips it skips each of the two. A summary whose lowest is above
-    /// its highest is [`Refusal::WrongSummary`], and two of different types are [`Refusal::DifferentTypes`].
+    /// It may hold what either file may hold, and a predicate that skips it skips each of the two.
     ///
     /// ```
     /// use weighpick::{Error, Refusal, Summary};
@@ -125,6 +128,10 @@ impl Summary {
     /// assert_eq!(pooled("int 0 to 20", "date 0 to 20"), Err(Refusal::DifferentTypes.into()));
     /// # Ok::<(), Error>(())
     /// ```
+    ///
+    /// # Errors
+    ///
+    /// [`Refusal::WrongSummary`] where the lowest of one is above its highest, and [`Refusal::DifferentTypes`].
     #[inline]
     pub fn pool(&self, other: &Summary) -> Result<Summary, Refusal> {
         let pooled = pool(&self.bytes, &other.bytes)?;
@@ -136,8 +143,7 @@ impl Summary {
         Ok(Summary { bytes })
     }
 
-    /// The summary of some files together, pooled one after the other; none where there is no file. The first refusal is handed on;
-    /// one file alone may be refused too.
+    /// The summary of some files together, pooled one after the other; none where there is no file.
     ///
     /// ```
     /// use weighpick::{Leaf, Pick, Summary};
@@ -150,6 +156,10 @@ impl Summary {
     /// assert_eq!(picker.pick_summary(&pooled)?, Pick::Skip); // no row of the three files meets the leaf
     /// # Ok::<(), weighpick::Error>(())
     /// ```
+    ///
+    /// # Errors
+    ///
+    /// The first refusal, as for [`pool`](Summary::pool); one file alone may be refused too.
     pub fn pool_all<'a>(
         files: impl IntoIterator<Item = &'a Summary>,
     ) -> Result<Option<Summary>, Refusal> {
@@ -178,6 +188,10 @@ impl Summary {
     }
 
     /// Reads a summary, as [`as_bytes`](Summary::as_bytes) gives it or as another program wrote it.
+    ///
+    /// # Errors
+    ///
+    /// [`Refusal::Malformed`] and [`Refusal::NotUtf8`].
     pub fn from_bytes(bytes: &[u8]) -> Result<Summary, Refusal> {
         // The library reads a summary whole before it compares types and ends.
         match test_summary(&any_leaf(Type::Int), bytes) {
@@ -203,7 +217,7 @@ impl Summary {
     /// The type of the values.
     #[must_use]
     pub fn column_type(&self) -> Type {
-        Type::from_number(self.bytes[TYPE_AT]).expect("the type of a summary is listed")
+        type_of(&self.bytes)
     }
 
     /// The lowest and the highest of the present values, if there are any.
@@ -224,6 +238,11 @@ impl Summary {
     pub fn has_missing(&self) -> bool {
         self.bytes[FLAG_AT] & HAS_MISSING != 0
     }
+}
+
+/// The type in the bytes of a summary. They were written here, or read by the library, which takes none with another number.
+fn type_of(bytes: &[u8; SUMMARY_SIZE]) -> Type {
+    Type::from_number(bytes[TYPE_AT]).expect("the type of a summary is listed")
 }
 
 /// The record of an end, if there are so many bytes.

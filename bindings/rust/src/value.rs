@@ -71,7 +71,11 @@ impl From<String> for Value {
 }
 
 impl Value {
-    /// Its record in a column of a type. A value of another type, or one that is too long, has none.
+    /// Its record in a column of a type.
+    ///
+    /// # Errors
+    ///
+    /// A value of another type, and one that is too long for a record.
     pub fn to_record(&self, column_type: Type) -> Result<Record, ValueError> {
         let mut record = EMPTY;
         self.put(column_type, &mut record)?;
@@ -89,6 +93,10 @@ impl Value {
     }
 
     /// The value in a record of a column of a type.
+    ///
+    /// # Errors
+    ///
+    /// [`Refusal::Malformed`] and [`Refusal::NotUtf8`].
     pub fn from_record(column_type: Type, record: &[u8]) -> Result<Value, Refusal> {
         // Identity hands back every value record, and refuses whatever is none.
         transform(Transform::Identity, column_type, record, |whole| {
