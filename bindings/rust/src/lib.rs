@@ -167,3 +167,8 @@ pub use types::Type;
 pub use value::Value;
 pub use value_error::ValueError;
 pub use verdict::Verdict;
+
+/// The page above the bindings, so that its samples are compiled with the other examples.
+#[cfg(doctest)]
+#[doc = include_str!("../../README.md")]
+struct Page;
