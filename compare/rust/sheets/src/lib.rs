@@ -6,7 +6,9 @@
 //! - `draw`: contents from a fixed seed
 //! - `port`: weighpick's C entry points
 
-// The port's own declarations; build.sh puts them beside this crate. They have the layout of bindings/rust.
+// The port's own declarations; build.sh puts them beside this crate. They have the layout of bindings/rust. The version
+// is not asked here.
+#[allow(dead_code)]
 #[rustfmt::skip]
 #[path = "../../weighpick/src/c_names.rs"]
 mod c_names;
