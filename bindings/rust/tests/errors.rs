@@ -101,28 +101,22 @@ fn one_error_takes_them_all() {
 #[test]
 fn the_words_are_those_of_the_error_inside() {
     let parse: Result<Type, ParseError> = "float".parse();
+    let (long, expected, found) = (CONTENT_MAX + 1, 2, 1);
     let errors: [(Error, String); 6] = [
         (
             LeafError::TooMany(LITERALS_MAX).into(),
             LeafError::TooMany(LITERALS_MAX).to_string(),
         ),
         (
-            ValueError::TooLong(CONTENT_MAX + 1).into(),
-            format!(
-                "a value has {} bytes, at most {CONTENT_MAX} fit",
-                CONTENT_MAX + 1
-            ),
+            ValueError::TooLong(long).into(),
+            format!("a value has {long} bytes, at most {CONTENT_MAX} fit"),
         ),
         (
             ColumnError::Twice("lot".to_string()).into(),
             "two columns have the name `lot`".to_string(),
         ),
         (
-            RowError::WrongCount {
-                expected: 2,
-                found: 1,
-            }
-            .into(),
+            RowError::WrongCount { expected, found }.into(),
             "2 values are asked for, one a column, and not 1".to_string(),
         ),
         (Refusal::Overflow.into(), Refusal::Overflow.to_string()),
@@ -152,6 +146,12 @@ fn conversions() {
     assert_eq!(Value::from(Some(grams.clone())), Value::Present(grams));
     assert_eq!(Literal::from("ab"), Literal::string("ab"));
     assert_eq!(Value::from("ab"), Value::Present(Literal::string("ab")));
+    assert_eq!(Literal::from("ab".to_string()), Literal::string("ab"));
+    assert_eq!(Value::from("ab".to_string()), Value::from("ab"));
+    assert_eq!(Literal::from(-1_i32), Literal::Int(-1));
+    assert_eq!(Value::from(-1_i32), Value::Present(Literal::Int(-1)));
+    assert_eq!(Literal::from(-1_i64), Literal::Long(-1));
+    assert_eq!(Value::from(-1_i64), Value::Present(Literal::Long(-1)));
 }
 
 /// Of an operator and its negation a missing value meets one, but of these neither.

@@ -149,13 +149,3 @@ fn rows_and_partition_values() {
     }
     assert!(seen.iter().all(|&count| count > 30), "{seen:?}");
 }
-
-#[test]
-fn literals_and_values_of_plain_ones() {
-    assert_eq!(Literal::from(-1), Literal::Int(-1));
-    assert_eq!(Literal::from(-1_i64), Literal::Long(-1));
-    assert_eq!(Literal::from("ab".to_string()), Literal::from("ab"));
-    assert_eq!(Value::from(-1), Value::Present(Literal::Int(-1)));
-    assert_eq!(Value::from(-1_i64), Value::Present(Literal::Long(-1)));
-    assert_eq!(Value::from("ab".to_string()), Value::from("ab"));
-}

@@ -8,6 +8,8 @@ use support::meets::meets;
 use support::{leaves_of, number};
 use weighpick::{Leaf, Literal, Pick, Transform, Type, Value, Verdict};
 
+const PAGE: &str = include_str!("../src/pick.rs");
+
 /// A row has a value in each of two columns, and so has a file: its partition values.
 type Two = [Value; 2];
 
@@ -136,6 +138,21 @@ fn the_tables_are_what_rows_say() {
             assert_eq!(Some(one.and(other)), entry(and), "{one} and {other}");
             assert_eq!(Some(one.or(other)), entry(or), "{one} or {other}");
         }
+    }
+}
+
+/// The tables of the page are those of the functions.
+#[test]
+fn the_tables_stand_on_the_page() {
+    let tables: [(&str, fn(Pick, Pick) -> Pick); 2] = [("and", Pick::and), ("or", Pick::or)];
+    for (word, join) in tables {
+        let mut table = format!("| {word} | Skip | Read | Whole |\n|---|---|---|---|\n");
+        for one in Pick::ALL {
+            let [skip, read, whole] = Pick::ALL.map(|other| join(one, other));
+            table += &format!("| **{one:?}** | {skip:?} | {read:?} | {whole:?} |\n");
+        }
+        let lines: String = table.lines().map(|l| format!("    /// {l}\n")).collect();
+        assert!(PAGE.contains(&lines), "{table}");
     }
 }
 
