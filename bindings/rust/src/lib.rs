@@ -24,9 +24,9 @@
 //!
 //! A file may be passed over only where [`Predicate::holds`] of the inclusive projection is `Ok(false)`, or its
 //! [`test_summary`](Predicate::test_summary) is `Ok(Verdict::Skip)`. Without a predicate (`Ok(None)`), and after a [`Refusal`],
-//! every file is read. [`Picker`] keeps this rule; where it takes a value or a summary for none of the table's,
-//! `.unwrap_or(Pick::Read)` does. A `?` would end the query instead. The picks of several leaves are joined by [`Pick::and`] and
-//! [`Pick::or`].
+//! every file is read. [`Picker`] keeps this rule; where it gives an error, as of a String that is too long for a record,
+//! `.unwrap_or(Pick::Read)` keeps it. A `?` would end the query instead. The picks of several leaves are joined by [`Pick::and`]
+//! and [`Pick::or`].
 //!
 //! `docs/FORMAT.md` in the repository says what lies in sheets, records, filters, summaries and answers; "document 01" in these pages
 //! is the customer's paper behind it, and "document 02" the one on filters and summaries.
@@ -35,10 +35,10 @@
 //!
 //! # What is proved
 //!
-//! Every answer is given by the static library `weighpick_c`. Its routines are proved: that the predicates, the verdicts and a
-//! filter's answers lose no row, for bytes of every kind. They keep no state, and may be called from several threads at once. This
-//! crate's own code is not proved but tested: it turns types into bytes and back, and keeps the rule above in [`Picker::pick`],
-//! [`Picker::pick_summary`] and [`Filter::pick`].
+//! Every answer is given by the static library `weighpick_c`. Its routines are proved, for bytes of every kind: no row is lost by an
+//! inclusive predicate, by a verdict of one or by a filter's no. They keep no state, and may be called from several threads at once.
+//! This crate's own code is not proved but tested: it turns types into bytes and back, keeps the rule above in [`Picker::pick`],
+//! [`Picker::pick_summary`] and [`Filter::pick`], and joins picks.
 //!
 //! # Panics
 //!
