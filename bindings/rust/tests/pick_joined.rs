@@ -10,6 +10,9 @@ use weighpick::{Leaf, Literal, Pick, Transform, Type, Value, Verdict};
 
 const PAGE: &str = include_str!("../src/pick.rs");
 
+/// How two picks are joined.
+type Join = fn(Pick, Pick) -> Pick;
+
 /// A row has a value in each of two columns, and so has a file: its partition values.
 type Two = [Value; 2];
 
@@ -144,8 +147,7 @@ fn the_tables_are_what_rows_say() {
 /// The tables of the page are those of the functions.
 #[test]
 fn the_tables_stand_on_the_page() {
-    let tables: [(&str, fn(Pick, Pick) -> Pick); 2] = [("and", Pick::and), ("or", Pick::or)];
-    for (word, join) in tables {
+    for (word, join) in [("and", Pick::and as Join), ("or", Pick::or)] {
         let mut table = format!("| {word} | Skip | Read | Whole |\n|---|---|---|---|\n");
         for one in Pick::ALL {
             let [skip, read, whole] = Pick::ALL.map(|other| join(one, other));
