@@ -1,9 +1,7 @@
 // Runs the cases on standard input (tools/make-cases) through the routines and program `weighpick`, and prints how many of each group and answer came out right
 // and wrong.
-mod judge;
-
-use judge::Question;
-use judge::is_right;
+use cases_judge::judge::Question;
+use cases_judge::judge::is_right;
 use values::words::u16_at;
 use values::words::u32_at;
 ghost use Rattle.io.specs.Counts.{Counts};

@@ -4,8 +4,8 @@ use mathlib.Core.Path.{sym}
 use lib.Seq.{length-take-le}
 use denote.Ref.{now}
 use borrow.Author.Needs.{needs}
-use Rattle.cases.proofs.judge.is_right_within.Statement.{statement}
-use Rattle.cases.proofs.judge.is_right_within.Tie as tie
+use Rattle.cases_judge.proofs.judge.is_right_within.Statement.{statement}
+use Rattle.cases_judge.proofs.judge.is_right_within.Tie as tie
 
 slice-aggregate-is-right-in : tie.Need-slice-aggregate-is-right-in
 slice-aggregate-is-right-in c =

@@ -4,8 +4,8 @@ use native.Mathlib.Omega.{arith}
 use mathlib.Core.Path.{_≡_, _∙_}
 use lib.ListN.{length, length-set}
 use borrow.Author.Needs.{needs}
-use Rattle.cases.proofs.judge.fill.Statement.{statement}
-use Rattle.cases.proofs.judge.fill.Tie as tie
+use Rattle.cases_judge.proofs.judge.fill.Statement.{statement}
+use Rattle.cases_judge.proofs.judge.fill.Tie as tie
 
 abbrev Inv-loop : tie.InvT-loop
 Inv-loop out₀ filler₀ i₀ out filler i = (i ≤ length out) × (length out ≡ length out₀)

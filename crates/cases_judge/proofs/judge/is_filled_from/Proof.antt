@@ -2,8 +2,8 @@
 use Prim.Native.Nat.{_-_, _≤_}
 use lib.ListN.{length}
 use borrow.Author.Needs.{needs}
-use Rattle.cases.proofs.judge.is_filled_from.Statement.{statement}
-use Rattle.cases.proofs.judge.is_filled_from.Tie as tie
+use Rattle.cases_judge.proofs.judge.is_filled_from.Statement.{statement}
+use Rattle.cases_judge.proofs.judge.is_filled_from.Tie as tie
 
 abbrev Inv-loop : tie.InvT-loop
 Inv-loop count out filler₀ i₀ filler i = i ≤ length out

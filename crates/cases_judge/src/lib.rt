@@ -1,0 +1,2 @@
+// What judges a case, for the program `cases`.
+pub mod judge;
