@@ -65,8 +65,8 @@ FilterStrictIsSafe = (c t v p : List ℕ) → Rows c t v p → filterParts Stric
 -- ---- 02: "the exact distance is kept for single leaves": a filter of one leaf is answered as that leaf's sheet is
 
 -- the text's filter, with every `not` read, is the leaf l: `a < 5`, `(a < 5)`, `not a >= 5` and `not not a < 5` are the leaf `a < 5`
-abbrev pub IsLeaf : List Cell → List ℕ → Leaf → Type 0
-IsLeaf cells t l = (f : Filter Leaf) × (filterIn (map (λ x. x .column) cells) t ≡ ok f) × (straight turn f ≡ single l)
+abbrev pub IsOneLeaf : List Cell → List ℕ → Leaf → Type 0
+IsOneLeaf cells t l = (f : Filter Leaf) × (filterIn (map (λ x. x .column) cells) t ≡ ok f) × (straight turn f ≡ single l)
 
 -- the leaf as a sheet, with its column's type, transform and width. The list is of bytes: a width that four bytes do not hold has no sheet
 abbrev pub sheetIn : List ℕ → Leaf → List ℕ
@@ -79,21 +79,21 @@ byReturned question (ok none) p = ok (withoutPredicate question)
 byReturned question (err e) p = err e
 
 abbrev pub OneLeafRow : Type 0
-OneLeafRow = (c t v : List ℕ) (cells : List Cell) (l : Leaf) → cellsOf rows c v ≡ ok cells → IsLeaf cells t l
+OneLeafRow = (c t v : List ℕ) (cells : List Cell) (l : Leaf) → cellsOf rows c v ≡ ok cells → IsOneLeaf cells t l
     → filterRow c t v ≡ holdsTest (sheetIn c l) (recordAt v (l .place))
 
 abbrev pub OneLeafParts : Type 0
-OneLeafParts = (question : Question) (c t p : List ℕ) (cells : List Cell) (l : Leaf) → AllBytes c → cellsOf parts c p ≡ ok cells → IsLeaf cells t l
+OneLeafParts = (question : Question) (c t p : List ℕ) (cells : List Cell) (l : Leaf) → AllBytes c → cellsOf parts c p ≡ ok cells → IsOneLeaf cells t l
     → filterParts question c t p ≡ byReturned question (projectSheet question (sheetIn c l)) (recordAt p (l .place))
 
--- joined to demand 3: the leaf is over a whole-number or time column, its projection returns the predicate q, and v is a row of the column's partition value in p.
+-- joined to demand 3: the leaf is over a whole-number or time column, its projection returns a predicate, and some row has the column's partition value in p.
 -- Strictly the filter is yes exactly if all rows of that value meet the leaf; inclusively exactly if some does, or where demand 3 has one above. Without a predicate
 -- `OneLeafParts` says no and yes, and nothing more is true: `a = 5`, of an Int under Truncate 1, is strictly no for 5, though all its rows meet it
 pub record OneLeafAsked (question : Question) (c t p : List ℕ) (l : Leaf) : Type 0 where
   pub list-bytes : AllBytes c
   pub cells : List Cell
   pub part-cells : cellsOf parts c p ≡ ok cells
-  pub is-leaf : IsLeaf cells t l
+  pub is-leaf : IsOneLeaf cells t l
   pub numeric : Numeric (sheetIn c l)
   pub row : List ℕ
   pub row-of : RowOf (sheetIn c l) (recordAt p (l .place)) row

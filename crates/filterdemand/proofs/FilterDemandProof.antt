@@ -28,7 +28,7 @@ use Rattle.grammar.specs.Filters.{Filter, leaf, either, both, opposite, bracket
 use Rattle.leaves.specs.Fitting.{Leaf}
 use Rattle.ask.specs.LeafAnswers.{predicateIn, rowAnswer, partAnswer}
 use Rattle.filter.specs.FilterDemand.{headAt, placesIn, Kept, FilterLosesNoRow, FilterStrictIsSafe, sheetIn, byReturned}
-use Rattle.filter.specs.FilterDemand.{IsLeaf, OneLeafRow, OneLeafParts, OneLeafAsked, OneLeafStrictIsExact, OneLeafInclusiveIsExact, FiltersLoseNothing}
+use Rattle.filter.specs.FilterDemand.{IsOneLeaf, OneLeafRow, OneLeafParts, OneLeafAsked, OneLeafStrictIsExact, OneLeafInclusiveIsExact, FiltersLoseNothing}
 use Rattle.filter.specs.OlderFilterDemand.{FilterLosesNoOlderRow}
 use Rattle.parse.specs.FilterText.{filterIn, turn}
 use Rattle.filter.specs.FilterRoutines.{filterRow, filterParts}
@@ -174,7 +174,7 @@ module _ (side : Side) (c v : List ℕ) (cells : List Cell) (a : cellsOf side c 
       (omega (arith, width-is, word-step 8 3 s, word-step 9 2 s, word-step 10 1 s, word-step 11 0 s, bytes 8, bytes 9, bytes 10, bytes 11))
 
 -- a text that is one leaf, turned or not: the leaf is fitted
-leaf-of : (cells : List Cell) (t : List ℕ) (l : Leaf) → IsLeaf cells t l → Fitted (columnsOf cells) l
+leaf-of : (cells : List Cell) (t : List ℕ) (l : Leaf) → IsOneLeaf cells t l → Fitted (columnsOf cells) l
 leaf-of cells t l (f, e, is) =
     let cs = columnsOf cells in
     subst (EveryTurned (Fitted cs)) is (straight-every (Fitted cs) turn (turn-fitted cs) f (all-fitted cs t f e) .0)

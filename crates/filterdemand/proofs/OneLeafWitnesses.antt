@@ -33,7 +33,7 @@ use Rattle.leaves.specs.Fitting.{Leaf}
 use Rattle.leaves.specs.Symbols.{symbols}
 use Rattle.ask.specs.LeafAnswers.{rowAnswer, partAnswer}
 use Rattle.parse.specs.FilterText.{filterIn}
-use Rattle.filter.specs.FilterDemand.{IsLeaf, OneLeafAsked}
+use Rattle.filter.specs.FilterDemand.{IsOneLeaf, OneLeafAsked}
 use Rattle.filter.specs.FilterRoutines.{filterRow, filterParts}
 use Rattle.demand.proofs.RecordBytes.{looked-at}
 use Rattle.demand.proofs.Witnesses.{five, row-of-nought, atMost290, less300, returned, numeric}
@@ -49,20 +49,20 @@ twice = ascii "not not (a < 300)"
 abbrev turnedBack : List ℕ
 turnedBack = ascii "not a >= 300"
 
-are-leaf : IsLeaf partCells twice below300 × IsLeaf partCells turnedBack below300
+are-leaf : IsOneLeaf partCells twice below300 × IsOneLeaf partCells turnedBack below300
 unfolding filterIn symbols disjunction conjunction single inType compareBytes
 are-leaf = (
   (opposite (opposite (bracket (leaf below300))), refl, refl),
   (opposite (leaf (record { place = 0; head = headOfA; operator = greaterThanOrEq; content = int (pos 300) })), refl, refl),
 )
 
-pub one-leaf-row-asks : (c t v : List ℕ) × (cells : List Cell) × (l : Leaf) × (cellsOf rows c v ≡ ok cells) × IsLeaf cells t l
+pub one-leaf-row-asks : (c t v : List ℕ) × (cells : List Cell) × (l : Leaf) × (cellsOf rows c v ≡ ok cells) × IsOneLeaf cells t l
 one-leaf-row-asks = (list, twice, row, rowCells, below300, row-cells, are-leaf .0)
 
 list-bytes : AllBytes list
 list-bytes = looked-at list refl
 
-pub one-leaf-parts-asks : (c t p : List ℕ) × (cells : List Cell) × (l : Leaf) × AllBytes c × (cellsOf parts c p ≡ ok cells) × IsLeaf cells t l
+pub one-leaf-parts-asks : (c t p : List ℕ) × (cells : List Cell) × (l : Leaf) × AllBytes c × (cellsOf parts c p ≡ ok cells) × IsOneLeaf cells t l
 one-leaf-parts-asks = (list, turnedBack, part, partCells, below300, list-bytes, part-cells, are-leaf .1)
 
 -- the leaf's sheet is that of demand 3's witnesses, and so are its row 5 and its partition value 0

@@ -43,15 +43,15 @@ pub data Spelled : List ℕ → Token → List ℕ → Type 0 where
   not-equal : {rest : List ℕ} → Spelled (code "!" ∷ code "=" ∷ rest) (sign notEq) rest
 
 -- a token that stands for something
-abbrev pub readable : Token → Bool
-readable (word w) = true
-readable (sign o) = true
-readable (decimal z) = true
-readable (quoted s) = true
-readable opening = true
-readable closing = true
-readable unreadable = false
+abbrev pub isSpelled : Token → Bool
+isSpelled (word w) = true
+isSpelled (sign o) = true
+isSpelled (decimal z) = true
+isSpelled (quoted s) = true
+isSpelled opening = true
+isSpelled closing = true
+isSpelled unreadable = false
 
 -- (`SpelledLaws.token-means`)
 abbrev pub TokenMeans : Type 0
-TokenMeans = (s : List ℕ) (t : Token) (rest : List ℕ) → ((token s ≡ taken t rest) × (readable t ≡ true)) ↔ Spelled s t rest
+TokenMeans = (s : List ℕ) (t : Token) (rest : List ℕ) → ((token s ≡ taken t rest) × (isSpelled t ≡ true)) ↔ Spelled s t rest

@@ -17,7 +17,7 @@ use Rattle.values.specs.laws.CharacterLaws.{following-shorter}
 use Rattle.values.specs.laws.OrderLaws.{is-equal, bytes-order}
 use Rattle.values.specs.laws.TestLaws.{clash, and-both, refuted, both-and, or-neither}
 use Rattle.columns.specs.Columns.{Column}
-use Rattle.tokens.specs.Spelled.{Spelled, beginsWith, readable}
+use Rattle.tokens.specs.Spelled.{Spelled, beginsWith, isSpelled}
 use Rattle.tokens.specs.Tokens as tokens
 use Rattle.tokens.specs.Tokens.{Token, Taken, taken, token, isSpace}
 use Rattle.tokens.specs.laws.SpelledLaws.{no-more, token-means}
@@ -31,15 +31,15 @@ use Rattle.leaves.specs.TextIs.{TextIs, no-symbol, and-word, or-word, no
 use Rattle.leaves.specs.laws.SymbolLaws.{ReadLeaves, symbol-leaves, symbols-none, symbols-first}
 
 -- ---- spaces, and then a token
-unread-token : {X : Type 0} {t : Token} {u rest : List ℕ} → taken tokens.unreadable u ≡ taken t rest → readable t ≡ true → X
-unread-token {X} {t} e r = let is : t ≡ tokens.unreadable = cc in clash r (ap readable is)
+unread-token : {X : Type 0} {t : Token} {u rest : List ℕ} → taken tokens.unreadable u ≡ taken t rest → isSpelled t ≡ true → X
+unread-token {X} {t} e r = let is : t ≡ tokens.unreadable = cc in clash r (ap isSpelled is)
 
 -- no token begins with a space
 unspaced : (s : List ℕ) (t : Token) (rest : List ℕ) → Spelled s t rest → beginsWith isSpace s ≡ false
 unspaced [] t rest d = refl
 unspaced (b ∷ s) t rest d = refuted (isSpace b) (λ e. none (token-means (b ∷ s) t rest .1 d) (eqb-true b (code " ") e))
   where
-    none : (token (b ∷ s) ≡ taken t rest) × (readable t ≡ true) → b ≡ code " " → ⊥
+    none : (token (b ∷ s) ≡ taken t rest) × (isSpelled t ≡ true) → b ≡ code " " → ⊥
     none h is = unread-token (ap (λ c. token (c ∷ s)) (sym is) ∙ h .0) (h .1)
 
 spaced-spelled : {s rest : List ℕ} {t : Token} → Spaced s t rest → Spelled (following isSpace s) t rest
@@ -55,7 +55,7 @@ spelled-spaced (b ∷ s) rest t d = go (isSpace b) refl (spelled-spaced s rest t
     go true e again d = subst (λ a. Spaced (a ∷ s) t rest) (sym (eqb-true b (code " ") e)) (after-space (again d))
     go false e again d = at-once d
 
-spaced-token : {s rest : List ℕ} {t : Token} → Spaced s t rest → (token (following isSpace s) ≡ taken t rest) × (readable t ≡ true)
+spaced-token : {s rest : List ℕ} {t : Token} → Spaced s t rest → (token (following isSpace s) ≡ taken t rest) × (isSpelled t ≡ true)
 spaced-token {s} {rest} {t} d = token-means (following isSpace s) t rest .1 (spaced-spelled d)
 
 -- ---- what is only spaces
@@ -75,14 +75,14 @@ only-spaces (b ∷ s) e = let h = and-both (isSpace b) (every isSpace s) e in rw
 -- ---- what is read stands there
 
 -- a token stands for something, or is the one that does not
-readable-or-not : (t : Token) → (readable t ≡ true) ⊎ (t ≡ tokens.unreadable)
-readable-or-not (tokens.word w) = inl refl
-readable-or-not (tokens.sign o) = inl refl
-readable-or-not (tokens.decimal z) = inl refl
-readable-or-not (tokens.quoted s) = inl refl
-readable-or-not tokens.opening = inl refl
-readable-or-not tokens.closing = inl refl
-readable-or-not tokens.unreadable = inr refl
+spelled-or-not : (t : Token) → (isSpelled t ≡ true) ⊎ (t ≡ tokens.unreadable)
+spelled-or-not (tokens.word w) = inl refl
+spelled-or-not (tokens.sign o) = inl refl
+spelled-or-not (tokens.decimal z) = inl refl
+spelled-or-not (tokens.quoted s) = inl refl
+spelled-or-not tokens.opening = inl refl
+spelled-or-not tokens.closing = inl refl
+spelled-or-not tokens.unreadable = inr refl
 
 equal-bytes : (a b : List ℕ) → isEqual (compareBytes a b) ≡ true → a ≡ b
 equal-bytes a b e = bytes-order .equal a b (is-equal (compareBytes a b) .0 e)
@@ -104,7 +104,7 @@ module _ (cs : List Column) where
           ⊎-elim
           (λ r. h t rest (spelled-spaced u rest t (token-means (following isSpace u) t rest .0 (e, r))))
           (λ is. subst (Reads s) (sym (ap (λ k. f k rest) is ∙ nothing rest)) (none-reads s))
-          (readable-or-not t)
+          (spelled-or-not t)
 
   some-reads : {A : Type 0} (s : List ℕ) (x : Option A) (f : A → Read) → ((a : A) → x ≡ some a → Reads s (f a)) → Reads s (orElse x f)
   some-reads s none f h = none-reads s
@@ -169,7 +169,7 @@ module _ (cs : List Column) where
   symbols-spaced : (s : List ℕ) (t : Token) (rest : List ℕ) → Spaced s t rest → symbols cs s ≡ firstThen cs (symbols cs) (ofToken cs t rest)
   symbols-spaced s t rest d = go (following isSpace s) refl (spaced-token d)
     where
-      go : (v : List ℕ) → following isSpace s ≡ v → (token v ≡ taken t rest) × (readable t ≡ true) → symbols cs s ≡ firstThen cs (symbols cs) (ofToken cs t rest)
+      go : (v : List ℕ) → following isSpace s ≡ v → (token v ≡ taken t rest) × (isSpelled t ≡ true) → symbols cs s ≡ firstThen cs (symbols cs) (ofToken cs t rest)
       go [] e h = unread-token (h .0) (h .1)
       go (b ∷ v) e h = symbols-first cs s b v e ∙ ap (λ x. firstThen cs (symbols cs) (onTaken (ofToken cs) x)) (h .0)
 

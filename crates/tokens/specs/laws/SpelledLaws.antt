@@ -14,7 +14,7 @@ use Rattle.values.specs.laws.CharacterLaws.{leading-following}
 use Rattle.values.specs.laws.TestLaws.{clash, refuted, and-both, both-and}
 use Rattle.tokens.specs.Tokens.{Token, word, decimal, quoted, unreadable, Taken, taken, numberAfter}
 use Rattle.tokens.specs.Tokens.{wordAt, decimalAt, minusAt, isText, unquoted, quotedAt, longest, token}
-use Rattle.tokens.specs.Spelled.{beginsWith, isEquals, readable, TokenMeans}
+use Rattle.tokens.specs.Spelled.{beginsWith, isEquals, isSpelled, TokenMeans}
 use Rattle.tokens.specs.Spelled.{Spelled, a-word, a-number, with-minus, in-quotes, opens, closes}
 use Rattle.tokens.specs.Spelled.{less-or-equal, less, greater-or-equal, greater, equal, not-equal}
 use Rattle.tokens.specs.laws.DecimalLaws.{digit-range}
@@ -72,7 +72,7 @@ module _ (passes : ℕ → Bool) where
 
 -- a text begins with what was taken from it, where that stands for something
 abbrev Spells : List ℕ → Taken → Type 0
-Spells s (taken t rest) = readable t ≡ true → Spelled s t rest
+Spells s (taken t rest) = isSpelled t ≡ true → Spelled s t rest
 
 none-spelled : (s rest : List ℕ) → Spells s (taken unreadable rest)
 none-spelled s rest r = clash r refl
@@ -139,7 +139,7 @@ without-equals : (with without : Token) (rest : List ℕ) → beginsWith isEqual
 without-equals with without [] other = refl
 without-equals with without (b ∷ s) other = rw other
 
-token-found : (s : List ℕ) (t : Token) (rest : List ℕ) → Spelled s t rest → (token s ≡ taken t rest) × (readable t ≡ true)
+token-found : (s : List ℕ) (t : Token) (rest : List ℕ) → Spelled s t rest → (token s ≡ taken t rest) × (isSpelled t ≡ true)
 token-found s t rest (a-word {b} {w} all other) = let k = only-run-from isLetter b w rest all other in (rw (k .0, k .1, k .2), refl)
 token-found s t rest (a-number d ds all other) = let k = only-run-from isDigit d ds rest all other in (rw (no-letter d (k .0), k .0, k .1, k .2), refl)
 token-found s t rest (with-minus d ds all other) = let k = only-run-from isDigit d ds rest all other in (rw (k .0, k .1, k .2), refl)
