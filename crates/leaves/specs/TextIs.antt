@@ -53,6 +53,6 @@ isRead grammar.opening = true
 isRead grammar.closing = true
 isRead grammar.unreadable = false
 
--- (`TextLaws.symbols-mean`)
+-- `symbols` finds the symbols that the text is, and one that stands for nothing where it is none (`TextLaws.symbols-mean`)
 abbrev pub SymbolsMean : Type 0
 SymbolsMean = (cs : List Column) (s : List ℕ) (ys : List (Symbol Leaf)) → ((symbols cs s ≡ ys) × (every isRead ys ≡ true)) ↔ TextIs cs s ys

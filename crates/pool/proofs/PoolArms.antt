@@ -4,7 +4,7 @@ use mathlib.Core.Bool.{Bool, true, false, not, _||_, true≢false, false≢true}
 use mathlib.Core.List.{List}
 use mathlib.Core.Path.{_≡_, sym, ap, _∙_}
 use Rattle.values.specs.Order.{isLess}
-use Rattle.values.specs.Outcomes.{Res, ok, err}
+use Rattle.values.specs.Outcomes.{err}
 use Rattle.values.specs.laws.OutcomeLaws.{going}
 use Rattle.values.specs.Types.{sameType}
 use Rattle.values.specs.declared.datatypes.PrimitiveType.{PrimitiveType}

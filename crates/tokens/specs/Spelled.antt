@@ -52,6 +52,6 @@ isSpelled opening = true
 isSpelled closing = true
 isSpelled unreadable = false
 
--- (`SpelledLaws.token-means`)
+-- `token` finds what the text begins with, and where it begins with nothing it finds none (`SpelledLaws.token-means`)
 abbrev pub TokenMeans : Type 0
 TokenMeans = (s : List ℕ) (t : Token) (rest : List ℕ) → ((token s ≡ taken t rest) × (isSpelled t ≡ true)) ↔ Spelled s t rest
