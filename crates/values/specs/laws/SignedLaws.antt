@@ -1,5 +1,5 @@
 -- What code leaves of a signed number: a local holds bits, and is read back from them as `to_z w (of_z w z)`. Assumes nothing.
-use Rattle.std.specs.Prelude.{◌≡◌, ◌-◌, ◌^◌, ◌<◌, ◌≤◌, true, false, T, ℤ, ◌≤ℤ◌, ◌<ℤ◌, FitsSigned, ◌≢◌, int_le, int_lt, nat_lt}
+use Rattle.std.specs.Prelude.{◌≡◌, ◌^◌, ◌<◌, true, false, T, ℤ, ◌≤ℤ◌, ◌<ℤ◌, FitsSigned, ◌≢◌, int_le, int_lt, nat_lt}
 use Rattle.std.proofs.Common.{sym, ap, ◌∙◌, ltb→lt, to_z-of_z}
 use Rattle.std.specs.Int.Signed.{mag}
 use Rattle.std.specs.Int.{Width}

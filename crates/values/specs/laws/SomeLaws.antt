@@ -17,6 +17,7 @@ module _ {A : Type 0} (test : A → Bool) where
           ⊎_elim (λ e. (x, here refl, e)) (λ e. let m = found xs e in (m.0, there m.1, m.2)) (or_cases (test x) (some test xs) h)
 
       member : (v : A) (xs : List A) → Isin v xs → test v ≡ true → some test xs ≡ true
+      member v [] m e = elim m [ ]
       member v (x ∷ xs) (here is) e = or_left {a = test x} (some test xs) (ap test (sym is) ∙ e)
       member v (x ∷ xs) (there m) e = or_right (test x) (member v xs m e)
 
@@ -24,6 +25,7 @@ module _ {A : Type 0} (test : A → Bool) where
   every_iff xs = (each xs, all xs)
     where
       each : (xs : List A) → every test xs ≡ true → (x : A) → Isin x xs → test x ≡ true
+      each [] h v m = elim m [ ]
       each (x ∷ xs) h v (here is) = rw is (and_both (test x) (every test xs) h).0
       each (x ∷ xs) h v (there m) = each xs (and_both (test x) (every test xs) h).1 v m
 

@@ -1,0 +1,12 @@
+-- `is_utf8` meets its contract. The loop's invariant: what is awaited of the rest gives the whole answer. Assumes nothing.
+use Rattle.std.proofs.Common.{sym, ap, ◌∙◌, drop_of_length-le}
+use Rattle.values.specs.code.Utf8Rests.{awaited}
+use Rattle.values.specs.laws.Utf8StepLaws.{await_end}
+use Rattle.values.proofs.utf8.is_utf8.Goals as goal
+
+pub returns : goal.returns
+returns c =
+    let l = c in
+    await_end l.loop-i.q
+    ∙ ap (awaited l.loop-i.q) (sym (drop_of_length-le l.args.s.now c.loop-i-test.false))
+    ∙ l.loop-i.invariant.1
