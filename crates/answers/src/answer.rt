@@ -8,7 +8,7 @@ use values::error::ErrorKind;
 // The bytes of a record, as they are counted in an answer.
 pub const RECORD: u16 = RECORD_SIZE as u16;
 
-#[derive(Drop)]
+#[derive(Clone, Copy)]
 pub enum Answer {
     // So many bytes of the buffer are the result; 16 bits hold the longest, and keep an answer at four bytes.
     Written(u16),

@@ -6,7 +6,7 @@ use values::transform::Transform;
 
 // What the head says, how many literals there are, what is asked, and the type of the partition values.
 // Operator and column stand apart: side by side they would be read as one word, for which a processor waits, since `read_sheet` writes them one by one.
-#[derive(Drop)]
+#[derive(Clone, Copy)]
 pub struct Leaf {
     pub question: Question,
     pub operator: PredicateOperator,

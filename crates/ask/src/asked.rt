@@ -5,7 +5,7 @@ ghost use Rattle.ask.specs.LeafAnswers.{without_predicate};
 use projection::question::Question;
 
 // Of a row, or of a partition value under a question.
-#[derive(Drop)]
+#[derive(Clone, Copy)]
 pub enum Asked {
     Row,
     Part(Question),

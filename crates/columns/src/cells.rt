@@ -17,21 +17,21 @@ use values::error::ErrorKind;
 use values::utf8::is_utf8;
 
 // What the values are: those of a row, or partition values.
-#[derive(Drop)]
+#[derive(Clone, Copy)]
 pub enum Side {
     Rows,
     Parts,
 }
 
 // Whether the values are there, or why they are not.
-#[derive(Drop)]
+#[derive(Clone, Copy)]
 pub enum ValuesResult {
     Ok,
     Err(ErrorKind),
 }
 
 // What is found of one value; that one is malformed comes before that another is not UTF-8.
-#[derive(Drop)]
+#[derive(Clone, Copy)]
 enum Checked {
     Good,
     NotUtf8,

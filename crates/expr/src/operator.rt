@@ -11,7 +11,7 @@ pub const PROJECT_LIMIT: usize = 64;
 
 pub const HOLDS_LIMIT: usize = 128;
 
-#[derive(Drop)]
+#[derive(Clone, Copy)]
 pub enum PredicateOperator {
     // Unary operators.
     IsNull,
@@ -33,7 +33,7 @@ pub enum PredicateOperator {
 }
 
 // An operator, or why there is none.
-#[derive(Drop)]
+#[derive(Clone, Copy)]
 pub enum OperatorResult {
     Ok(PredicateOperator),
     Err(ErrorKind),

@@ -8,7 +8,7 @@ use sheet::records::CONTENT_SIZE;
 use values::datatypes::PrimitiveType;
 use values::utf8::is_utf8;
 
-#[derive(Drop)]
+#[derive(Clone, Copy)]
 pub struct Leaf {
     // Of the column, in the list.
     pub place: usize,

@@ -10,7 +10,7 @@ use columns::name::same_name;
 use expr::operator::PredicateOperator;
 use tokens::token::{TokenKind, token_at};
 
-#[derive(Drop)]
+#[derive(Clone, Copy)]
 pub enum SymbolKind {
     End,
     Leaf,
@@ -22,7 +22,7 @@ pub enum SymbolKind {
     Unreadable,
 }
 
-#[derive(Drop)]
+#[derive(Clone, Copy)]
 pub struct Symbol {
     pub kind: SymbolKind,
     // Counts where the kind is `Leaf`.

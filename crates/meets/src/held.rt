@@ -5,7 +5,7 @@ ghost use Rattle.meets.specs.Tested.{held_number};
 use values::error::ErrorKind;
 
 // Whether a value meets a leaf, or why that is not said.
-#[derive(Drop)]
+#[derive(Clone, Copy)]
 pub enum Held {
     Yes,
     No,

@@ -21,7 +21,7 @@ use values::error::ErrorKind;
 use values::transform::Transform;
 
 // The operator that a row of the table has, and the literal that is to be transformed: none where the row has no predicate.
-#[derive(Drop)]
+#[derive(Clone, Copy)]
 pub enum Boundary {
     None,
     At(PredicateOperator, i64),
@@ -29,7 +29,7 @@ pub enum Boundary {
 }
 
 // What a leaf with one number comes to: an operator with one number, In or NotIn of a number and the one above it, or none.
-#[derive(Drop)]
+#[derive(Clone, Copy)]
 pub enum NumberProjection {
     None,
     One(PredicateOperator, i64),

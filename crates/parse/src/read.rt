@@ -8,7 +8,7 @@ use leaves::symbol::{SymbolKind, symbol_at};
 use meets::held::Held;
 
 // The fields of a word come first: the others then lie side by side, and are handed through memory in one piece.
-#[derive(Drop)]
+#[derive(Clone, Copy)]
 pub struct Read {
     // Where the text after the filter begins, and where the text after the symbol there begins.
     pub next: usize,

@@ -7,7 +7,7 @@ ghost use Rattle.parse.specs.code.SkimAnswers.{turn_of, SkimsTo};
 use leaves::symbol::{SymbolKind, symbol_at};
 
 // Whether the bracket closes, and where the text after it begins.
-#[derive(Drop)]
+#[derive(Clone, Copy)]
 pub struct Skimmed {
     pub found: bool,
     pub next: usize,
@@ -15,7 +15,7 @@ pub struct Skimmed {
 
 // What a symbol leads to: an operand, or a word between two, is expected next; a bracket was opened or closed, after which the same is expected as before;
 // or the symbol cannot stand there.
-#[derive(Drop)]
+#[derive(Clone, Copy)]
 pub enum Turn {
     Operand,
     Between,

@@ -11,7 +11,7 @@ use values::error::ErrorKind;
 use values::transform::Transform;
 
 // What a transform makes of a String or Binary: missing, so many of its first bytes, or a refusal.
-#[derive(Drop)]
+#[derive(Clone, Copy)]
 pub enum BytesResult {
     Missing,
     Prefix(usize),

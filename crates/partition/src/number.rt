@@ -17,7 +17,7 @@ use values::error::ErrorKind;
 use values::transform::Transform;
 
 // What a transform makes of a number.
-#[derive(Drop)]
+#[derive(Clone, Copy)]
 pub enum NumberResult {
     Missing,
     Value(i64),
@@ -57,7 +57,7 @@ fn truncate_number(column: PrimitiveType, v: i64, width: u32) -> NumberResult
 }
 
 // The day of a value of a time column.
-#[derive(Drop)]
+#[derive(Clone, Copy)]
 pub enum DayResult {
     Ok(Days),
     Err(ErrorKind),
@@ -163,7 +163,7 @@ pub fn transform_literal(column: PrimitiveType, transform: Transform, v: i64) ->
 }
 
 // A number that a row holds, or none.
-#[derive(Drop)]
+#[derive(Clone, Copy)]
 pub enum NumberRow {
     Missing,
     Present(i64),

@@ -13,14 +13,14 @@ use summary::summary::{Summary, SummaryResult, flag_of, read_summary};
 use values::error::ErrorKind;
 
 // Which of the two files an end is of.
-#[derive(Drop)]
+#[derive(Clone, Copy)]
 pub enum Whose {
     First,
     Second,
 }
 
 // The pooled summary: the files whose its ends are, and its flag.
-#[derive(Drop)]
+#[derive(Clone, Copy)]
 pub struct Pooled {
     pub lowest: Whose,
     pub highest: Whose,
@@ -28,7 +28,7 @@ pub struct Pooled {
 }
 
 // The pooled summary, or why there is none.
-#[derive(Drop)]
+#[derive(Clone, Copy)]
 pub enum PoolResult {
     Ok(Pooled),
     Err(ErrorKind),

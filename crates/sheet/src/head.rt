@@ -15,14 +15,14 @@ use values::words::{u16_at, u32_at};
 pub const HEAD_SIZE: usize = 12;
 
 // What a head says beside its next and its operator.
-#[derive(Drop)]
+#[derive(Clone, Copy)]
 pub struct Fields {
     pub column: PrimitiveType,
     pub transform: Transform,
 }
 
 // The fields, or why there are none.
-#[derive(Drop)]
+#[derive(Clone, Copy)]
 pub enum FieldsResult {
     Ok(Fields),
     Err(ErrorKind),
@@ -48,7 +48,7 @@ pub fn read_fields(s: &[u8]) -> FieldsResult
     FieldsResult::Err(ErrorKind::Malformed)
 }
 
-#[derive(Drop)]
+#[derive(Clone, Copy)]
 pub struct Head {
     pub operator: PredicateOperator,
     pub column: PrimitiveType,
@@ -56,7 +56,7 @@ pub struct Head {
 }
 
 // A head, or why there is none.
-#[derive(Drop)]
+#[derive(Clone, Copy)]
 pub enum HeadResult {
     Ok(Head),
     Err(ErrorKind),

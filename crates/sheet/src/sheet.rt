@@ -12,14 +12,14 @@ use crate::records::RECORD_SIZE;
 use expr::operator::PredicateOperator;
 use values::error::ErrorKind;
 
-#[derive(Drop)]
+#[derive(Clone, Copy)]
 pub struct Sheet {
     pub head: Head,
     pub count: usize,
 }
 
 // A sheet, or why there is none.
-#[derive(Drop)]
+#[derive(Clone, Copy)]
 pub enum SheetResult {
     Ok(Sheet),
     Err(ErrorKind),

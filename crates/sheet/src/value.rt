@@ -11,7 +11,7 @@ use values::error::ErrorKind;
 use values::words::u16_at;
 
 // Whether a value is missing or present, or why it is none.
-#[derive(Drop)]
+#[derive(Clone, Copy)]
 pub enum ValueResult {
     Missing,
     Present,

@@ -14,7 +14,7 @@ use values::datatypes::PrimitiveType;
 use values::utf8::count_code_points;
 
 // What such a leaf comes to: an operator with so many of the literal's first bytes, or none. Truncate refuses no byte string.
-#[derive(Drop)]
+#[derive(Clone, Copy)]
 pub enum BytesProjection {
     None,
     Prefix(PredicateOperator, usize),

@@ -23,7 +23,7 @@ pub const HAS_MISSING: u8 = 1;
 
 pub const NONE_PRESENT: u8 = 2;
 
-#[derive(Drop)]
+#[derive(Clone, Copy)]
 pub struct Summary {
     pub column: PrimitiveType,
     // Whether there are ends: the contents of the first two records.
@@ -32,7 +32,7 @@ pub struct Summary {
 }
 
 // A summary, or why there is none.
-#[derive(Drop)]
+#[derive(Clone, Copy)]
 pub enum SummaryResult {
     Ok(Summary),
     Err(ErrorKind),

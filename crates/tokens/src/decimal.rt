@@ -9,7 +9,7 @@ use values::characters::is_digit;
 const TOO_LARGE: u64 = 9223372036854775809;
 
 // What digits come to, and where they end.
-#[derive(Drop)]
+#[derive(Clone, Copy)]
 pub struct Digits {
     pub magnitude: u64,
     pub next: usize,

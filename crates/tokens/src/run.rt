@@ -4,7 +4,7 @@ ghost use Rattle.tokens.specs.code.TokenAnswers.{is_of, Ends};
 
 use values::characters::is_letter;
 
-#[derive(Drop)]
+#[derive(Clone, Copy)]
 pub enum Class {
     Spaces,
     Letters,

@@ -11,7 +11,7 @@ use expr::operator::PredicateOperator;
 use values::characters::{is_digit, is_letter};
 
 // What a text begins with, after its spaces.
-#[derive(Drop)]
+#[derive(Clone, Copy)]
 pub enum TokenKind {
     End,
     Word,
@@ -24,7 +24,7 @@ pub enum TokenKind {
     Unreadable,
 }
 
-#[derive(Drop)]
+#[derive(Clone, Copy)]
 pub struct Token {
     pub kind: TokenKind,
     // Of a sign.

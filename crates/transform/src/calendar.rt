@@ -10,25 +10,25 @@ ghost use Rattle.transform.specs.code.TransformAnswers.{dated, counted, year_aft
 use crate::floor::floor_div;
 
 // A count of days from 1970-01-01.
-#[derive(Drop)]
+#[derive(Clone, Copy)]
 pub struct Days(pub i32);
 
 // A year and a month of it, 0 for January.
-#[derive(Drop)]
+#[derive(Clone, Copy)]
 pub struct Civil {
     pub year: i32,
     pub month0: u32,
 }
 
 // The civil date of a day: there is none outside the calendar.
-#[derive(Drop)]
+#[derive(Clone, Copy)]
 pub enum Dated {
     On(Civil),
     Outside,
 }
 
 // A count of years or months from 1970.
-#[derive(Drop)]
+#[derive(Clone, Copy)]
 pub enum Counted {
     Of(i32),
     Outside,
@@ -36,7 +36,7 @@ pub enum Counted {
 
 // The groups of 400, 100, 4 and 1 years from 1 January of year 1 to 1 January of a day's year. Before year 1 the first count is negative; the other
 // three are at most 3, 24 and 3.
-#[derive(Drop)]
+#[derive(Clone, Copy)]
 pub struct YearGroups {
     pub n400: i32,
     pub n100: u32,
@@ -45,7 +45,7 @@ pub struct YearGroups {
 }
 
 // The groups of years before a day, and its place in the year after them, 0 for 1 January: there is neither outside the calendar.
-#[derive(Drop)]
+#[derive(Clone, Copy)]
 pub enum Grouped {
     Into(YearGroups, u32),
     Outside,

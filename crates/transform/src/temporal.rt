@@ -16,7 +16,7 @@ const NANOSECONDS_PER_HOUR: i64 = 3_600_000_000_000;
 const NANOSECONDS_PER_DAY: i64 = 86_400_000_000_000;
 
 // What a column counts from 1970-01-01. Time counts from midnight, so it is none of these.
-#[derive(Drop)]
+#[derive(Clone, Copy)]
 pub enum TimeUnit {
     Day,
     Microsecond,
@@ -42,11 +42,11 @@ pub fn unit_of(column: PrimitiveType) -> TimeUnit
 }
 
 // A count of microseconds from 1970-01-01.
-#[derive(Drop)]
+#[derive(Clone, Copy)]
 pub struct Micros(pub i64);
 
 // A count of nanoseconds from 1970-01-01.
-#[derive(Drop)]
+#[derive(Clone, Copy)]
 pub struct Nanos(pub i64);
 
 impl Micros {

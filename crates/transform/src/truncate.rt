@@ -7,7 +7,7 @@ use crate::floor::floor_rem;
 use values::utf8::continues_code_point;
 
 // A truncated number of 64 bits, or nothing where the width is 0 or the number would fall below the lowest.
-#[derive(Drop)]
+#[derive(Clone, Copy)]
 pub enum Truncated {
     Value(i64),
     Overflow,

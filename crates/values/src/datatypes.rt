@@ -6,7 +6,7 @@ ghost use Rattle.values.specs.code.TypeResults.{is_bytes, type_result};
 
 use crate::error::ErrorKind;
 
-#[derive(Drop)]
+#[derive(Clone, Copy)]
 pub enum PrimitiveType {
     Int,
     Long,
@@ -21,7 +21,7 @@ pub enum PrimitiveType {
 }
 
 // A type, or why there is none.
-#[derive(Drop)]
+#[derive(Clone, Copy)]
 pub enum TypeResult {
     Ok(PrimitiveType),
     Err(ErrorKind),

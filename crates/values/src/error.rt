@@ -2,7 +2,7 @@
 ghost use Rattle.std.specs.Prelude.{◌≡◌};
 ghost use Rattle.values.specs.Outcomes.{error_number};
 
-#[derive(Drop)]
+#[derive(Clone, Copy)]
 pub enum ErrorKind {
     // The sheet or the value is against the rules of its format.
     Malformed,

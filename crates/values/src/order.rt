@@ -5,7 +5,7 @@ ghost use Rattle.values.specs.Order.{compare_bytes, is_less, starts_with};
 use crate::words::u64_at;
 
 // The Rust's std::cmp::Ordering.
-#[derive(Drop)]
+#[derive(Clone, Copy)]
 pub enum Ordering {
     Less,
     Equal,

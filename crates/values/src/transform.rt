@@ -5,7 +5,7 @@ ghost use Rattle.values.specs.code.TypeResults.{transform_result};
 
 use crate::error::ErrorKind;
 
-#[derive(Drop)]
+#[derive(Clone, Copy)]
 pub enum Transform {
     Identity,
     Truncate(u32),
@@ -18,7 +18,7 @@ pub enum Transform {
 }
 
 // A transform, or why there is none.
-#[derive(Drop)]
+#[derive(Clone, Copy)]
 pub enum TransformResult {
     Ok(Transform),
     Err(ErrorKind),

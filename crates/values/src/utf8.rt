@@ -13,7 +13,7 @@ pub fn continues_code_point(b: u8) -> bool
 }
 
 // What a code point still has: so many bytes, the next one from the second number to the third, and the others any continuation.
-#[derive(Drop)]
+#[derive(Clone, Copy)]
 struct Rest(usize, u8, u8);
 
 // Nothing may follow: a byte from 1 to 0 is none.

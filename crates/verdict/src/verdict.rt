@@ -6,7 +6,7 @@ ghost use Rattle.verdict.specs.declared.verdict.Verdict.TheVariants.{Skip, Read}
 
 use values::error::ErrorKind;
 
-#[derive(Drop)]
+#[derive(Clone, Copy)]
 pub enum Verdict {
     // No value that the file may hold meets the predicate.
     Skip,
@@ -17,7 +17,7 @@ pub enum Verdict {
 }
 
 // A verdict, or why there is none.
-#[derive(Drop)]
+#[derive(Clone, Copy)]
 pub enum VerdictResult {
     Ok(Verdict),
     Err(ErrorKind),
