@@ -9,7 +9,7 @@ use lib.IntN.{ℤ, suc_ℤ}
 use Rattle.values.specs.Outcomes.{ok, Row, missing, present}
 use Rattle.values.specs.laws.OutcomeLaws.{ok_inj}
 use Rattle.values.specs.Types.{number, layout, in_type}
-use Rattle.values.specs.laws.WordLaws.{signed_bytes_lem}
+use Rattle.values.proofs.TwosComplement.{signed_bytes_lem}
 use Rattle.values.specs.declared.datatypes.PrimitiveType.{PrimitiveType}
 use Rattle.values.specs.declared.transform.Transform.{Transform}
 use Rattle.partition.specs.code.PartitionAnswers.{InType, OfPresent}

@@ -15,7 +15,8 @@ use Rattle.values.specs.laws.TestLaws.{clash}
 use Rattle.values.specs.Types.{Layout, number, bytes, layout, fits, in_layout, in_type}
 use Rattle.values.specs.Words.{le_number, unsigned}
 use Rattle.values.specs.laws.TypesLaws.{Sized, sized}
-use Rattle.values.specs.laws.WordLaws.{length_bytes, signed_bytes_lem, signed_in_range}
+use Rattle.values.specs.laws.WordLaws.{length_bytes}
+use Rattle.values.proofs.TwosComplement.{signed_bytes_lem, signed_in_range}
 use Rattle.values.specs.declared.datatypes.PrimitiveType.{PrimitiveType}
 use Rattle.values.specs.declared.datatypes.PrimitiveType.TheVariants.{Int, Date}
 use Rattle.values.specs.declared.transform.Transform.{Transform}

@@ -12,7 +12,7 @@ use Rattle.values.specs.laws.OutcomeLaws.{ok_inj}
 use Rattle.values.specs.laws.RangeLaws.{range_between, between_range}
 use Rattle.values.specs.laws.TestLaws.{clash}
 use Rattle.values.specs.laws.TypesLaws.{Sized, sized}
-use Rattle.values.specs.laws.WordLaws.{signed_in_range}
+use Rattle.values.proofs.TwosComplement.{signed_in_range}
 use Rattle.values.specs.Types.{number, layout, in_type}
 use Rattle.values.specs.Words.{le_number, AllBytes}
 use Rattle.values.specs.declared.datatypes.PrimitiveType.{PrimitiveType}

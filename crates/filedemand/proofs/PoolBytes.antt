@@ -15,7 +15,7 @@ use Rattle.values.specs.laws.OrderLaws.{connected, number_order, bytes_order}
 use Rattle.values.specs.laws.OutcomeLaws.{ok_inj, passing}
 use Rattle.values.specs.laws.TestLaws.{clash, same_test, and_both, both_and}
 use Rattle.values.specs.laws.TypesLaws.{same_type_lem}
-use Rattle.values.specs.laws.WordLaws.{bytes_signed}
+use Rattle.values.proofs.TwosComplement.{bytes_signed}
 use Rattle.values.specs.Types.{Layout, number, bytes, layout, fits, type_number, same_type}
 use Rattle.values.specs.Utf8.{utf8}
 use Rattle.values.specs.Words.{AllBytes, field, word, signed_bytes}

@@ -9,7 +9,7 @@ use Rattle.values.specs.laws.IntLaws.{ints, minus}
 use Rattle.values.specs.laws.SignedLaws.{back}
 use Rattle.values.specs.Words.{signed, unsigned}
 use Rattle.values.specs.laws.RangeLaws.{Wide}
-use Rattle.values.specs.laws.WordLaws.{signed_to_z}
+use Rattle.values.proofs.TwosComplement.{signed_to_z}
 
 -- bits of the upper half, as the number
 module _ {n : ℕ} {w : Width} (wide : Wide n w) (u : ℕ) (high : 2 ^ hbits w ≤ u) (f : Fits w u) where

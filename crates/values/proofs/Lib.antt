@@ -6,5 +6,6 @@ pub mod Held
 pub mod OrderArms
 pub mod Refusals
 pub mod Rests
+pub mod TwosComplement
 pub mod TypeArms
 pub mod Utf8Loops

@@ -43,6 +43,3 @@ signed_bytes n z = le_bytes n (unsigned n z)
 
 minus_two : signed_bytes 4 (negsuc 1) ≡ 0xFE ∷ 0xFF ∷ 0xFF ∷ 0xFF ∷ []
 minus_two = refl
-
-minus_two_back : signed 4 (le_number (0xFE ∷ 0xFF ∷ 0xFF ∷ 0xFF ∷ [])) ≡ negsuc 1
-minus_two_back = refl

@@ -11,7 +11,8 @@ use Rattle.values.specs.laws.OutcomeLaws.{ok_inj}
 use Rattle.values.specs.Outcomes.{ok, ◌>>=◌}
 use Rattle.values.specs.Types.{Layout, number, bytes, layout, fits, in_layout, in_type}
 use Rattle.values.specs.laws.TypesLaws.{Sized, sized}
-use Rattle.values.specs.laws.WordLaws.{signed_in_range, length_bytes}
+use Rattle.values.specs.laws.WordLaws.{length_bytes}
+use Rattle.values.proofs.TwosComplement.{signed_in_range}
 use Rattle.values.specs.Words.{over, signed, unsigned}
 use Rattle.values.specs.declared.datatypes.PrimitiveType.{PrimitiveType}
 use Rattle.values.specs.declared.transform.Transform.{Transform}

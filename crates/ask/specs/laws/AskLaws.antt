@@ -10,7 +10,7 @@ use Rattle.values.specs.declared.datatypes.PrimitiveType.{PrimitiveType}
 use Rattle.values.specs.declared.datatypes.PrimitiveType.TheVariants.{String}
 use Rattle.values.specs.declared.transform.Transform.{Transform}
 use Rattle.values.specs.laws.TestLaws.{and_both}
-use Rattle.values.specs.laws.WordLaws.{signed_bytes_lem}
+use Rattle.values.proofs.TwosComplement.{signed_bytes_lem}
 use Rattle.expr.specs.Operators.{one}
 use Rattle.projection.specs.declared.question.Question.{Question}
 use Rattle.sheet.specs.Values.{map_row}

@@ -1,17 +1,17 @@
 -- Laws of words: what is written is read, two's complement there and back and as the machine has it, and bytes written over a list.
 -- Assumes nothing.
-use Rattle.std.specs.Prelude.{◌≡◌, ℕ, zero, suc, ◌+◌, ◌-◌, ◌*◌, ◌/◌, ◌%◌, ◌^◌, ◌<◌, ◌≤◌, Bool, true, false, cond, List, [], ◌∷◌, ◌++◌, length, take, drop, ℤ, pos, negsuc, nat_lt, slice_index, slice_set, refl}
-use Rattle.std.proofs.Common.{zero-add, suc-add, add-zero, add-suc, add_assoc, mul-suc, mul_assoc, pow-suc, div-one, mod-lt, mod-eq_of_lt, arith, append_assoc, append-nil, sym, ap, ◌∙◌, lit<, length-append, length-drop, take-append-drop, take_at, drop_at, length-take-le, drop-drop, ltb-true, ltb-false, lt-ltb, le-ltb}
+use Rattle.std.specs.Prelude.{◌≡◌, ℕ, zero, suc, ◌+◌, ◌-◌, ◌*◌, ◌/◌, ◌%◌, ◌^◌, ◌<◌, ◌≤◌, true, List, [], ◌∷◌, ◌++◌, length, take, drop, ℤ, pos, negsuc, slice_index, slice_set, refl}
+use Rattle.std.proofs.Common.{zero-add, suc-add, add-zero, add-suc, add_assoc, mul-suc, mul_assoc, pow-suc, div-one, mod-lt, mod-eq_of_lt, arith, append_assoc, append-nil, sym, ap, ◌∙◌, lit<, length-append, length-drop, take-append-drop, take_at, drop_at, length-take-le, drop-drop}
 use Rattle.std.proofs.Math.Nat.{pow-succ', one-le-pow, div-div-eq-div-mul, div-add-mod, mul-add-mod_self_left}
 use Rattle.std.proofs.lemmas.List.Edits.{sets, sets-eq}
 use Rattle.std.proofs.Math.Seq.{take-nil}
 use Rattle.std.proofs.lemmas.List.{take-append-le, drop-append-le}
 use Rattle.std.specs.Int.Signed.{mag}
 use Rattle.std.specs.Int.{Width}
-use mir.Val.{to_z, of_z, sel, bits, hbits}
+use mir.Val.{of_z}
 use Rattle.values.specs.laws.RangeLaws.{Wide, in_range_mag}
 use Rattle.values.specs.Types.{half, in_range}
-use Rattle.values.specs.Words.{AllBytes, le_bytes, le_number, field, word, over, signed, unsigned, signed_bytes}
+use Rattle.values.specs.Words.{AllBytes, le_bytes, le_number, field, word, over, unsigned}
 
 -- ---- n bytes of a number, and the number of bytes
 pub number_bytes_lem : (n x : ℕ) → x < 256 ^ n → le_number (le_bytes n x) ≡ x
@@ -86,14 +86,6 @@ pub half_twice : (n : ℕ) → 0 < n → 2 * half n ≡ 256 ^ n
 half_twice zero h = let no : ⊥ = omega arith in absurd no
 half_twice (suc n) h = omega arith
 
--- whatever the number is: a pattern above those of n bytes is read as -1
-pub signed_in_range : (n u : ℕ) → 0 < n → in_range n (signed n u) ≡ true
-signed_in_range n u h = (in_range_mag n (signed n u)).1 (go (nat_lt u (half n)) refl)
-  where
-    go : (t : Bool) → nat_lt u (half n) ≡ t → mag (cond t (pos u) (negsuc (256 ^ n - suc u))) < half n
-    go true e = ltb-true u (half n) e
-    go false e = omega (arith, ltb-false u (half n) e, half_twice n h, one-le-pow n 256 (lit< tt))
-
 module _ (n : ℕ) (z : ℤ) (inside : in_range n z ≡ true) where
   small : mag z < half n
   small = (in_range_mag n z).0 inside
@@ -104,16 +96,6 @@ module _ (n : ℕ) (z : ℤ) (inside : in_range n z ≡ true) where
       go : (z : ℤ) → mag z < half n → unsigned n z < 256 ^ n
       go (pos a) h = omega arith
       go (negsuc a) h = omega arith
-
-  pub signed_unsigned : signed n (unsigned n z) ≡ z
-  signed_unsigned = go z small
-    where
-      go : (z : ℤ) → mag z < half n → signed n (unsigned n z) ≡ z
-      go (pos a) h = rw (lt-ltb a (half n) h)
-      go (negsuc a) h = rw (le-ltb (256 ^ n - suc a) (half n) (omega arith)) (ap negsuc (omega arith))
-
-  pub signed_bytes_lem : signed n (le_number (signed_bytes n z)) ≡ z
-  signed_bytes_lem = rw (number_bytes_lem n (unsigned n z) unsigned_below) signed_unsigned
 
   -- the low bytes of a wider pattern are the pattern
   pub unsigned_low : (m : ℕ) → unsigned (n + m) z % 256 ^ n ≡ unsigned n z
@@ -129,27 +111,8 @@ module _ (n : ℕ) (z : ℤ) (inside : in_range n z ≡ true) where
           = omega (arith, power_add n m, ap (λ (j : ℕ). 256 ^ n * j) whole, mul-suc (256 ^ n) k) in
           rw e (mul-add-mod_self_left (256 ^ n) k (256 ^ n - suc a) ∙ mod-eq_of_lt low)
 
-pub unsigned_signed : (n u : ℕ) → u < 256 ^ n → unsigned n (signed n u) ≡ u
-unsigned_signed n u k = go (nat_lt u (half n))
-  where
-    go : (t : Bool) → unsigned n (cond t (pos u) (negsuc (256 ^ n - suc u))) ≡ u
-    go true = refl
-    go false = omega arith
-
-pub bytes_signed : (n : ℕ) (bs : List ℕ) → length bs ≡ n → AllBytes bs → signed_bytes n (signed n (le_number bs)) ≡ bs
-bytes_signed n bs e h =
-    let below : le_number bs < 256 ^ n = rw e at (number_below bs h) in
-    rw (unsigned_signed n (le_number bs) below, ← e) (bytes_number bs h)
-
 -- ---- the machine's two's complement
 module _ {n : ℕ} {w : Width} (wide : Wide n w) where
-  pub signed_to_z : (u : ℕ) → signed n u ≡ to_z w u
-  signed_to_z u = rw (wide.halves, wide.count) (go (nat_lt u (2 ^ hbits w)))
-    where
-      go : (t : Bool) → cond t (pos u) (negsuc (2 ^ bits w - suc u)) ≡ sel t (pos u) (negsuc (2 ^ bits w - suc u))
-      go true = refl
-      go false = refl
-
   pub unsigned_of_z : (z : ℤ) → unsigned n z ≡ of_z w z
   unsigned_of_z (pos a) = refl
   unsigned_of_z (negsuc a) = rw wide.count
