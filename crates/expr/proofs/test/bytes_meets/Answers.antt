@@ -23,5 +23,5 @@ returns-in_default c =
     (λ o. meets_one bytes_tests (by_arity o) v l)
     (but (StartsWith ∷ NotStartsWith ∷ []))
     a.operator
-    c.in_default.keys3
+    (let h = c.in_default in ?)
     (rw (bytes_order.flips v l)))
