@@ -1,6 +1,6 @@
 // What a routine that writes a result answers.
 ghost use Rattle.std.specs.Prelude.{◌≡◌};
-ghost use Rattle.answers.specs.Answers.{answerNumber, answerCount};
+ghost use Rattle.answers.specs.Answers.{answer_number, answer_count};
 
 use sheet::records::RECORD_SIZE;
 use values::error::ErrorKind;
@@ -20,7 +20,7 @@ pub enum Answer {
 impl Answer {
     // Document 01's number of the answer.
     pub fn number(self) -> u32
-        ensures { result ≡ answerNumber self }
+        ensures { result ≡ answer_number self }
     {
         match self {
             Answer::Written(_) => 0,
@@ -32,7 +32,7 @@ impl Answer {
 
     // How many bytes were written.
     pub fn count(self) -> usize
-        ensures { result ≡ answerCount self }
+        ensures { result ≡ answer_count self }
     {
         match self {
             Answer::Written(n) => n as usize,

@@ -4,7 +4,7 @@
 ghost use Rattle.std.specs.Prelude.{true, ◌≡◌};
 ghost use Rattle.values.specs.Outcomes.{ok};
 ghost use Rattle.partition.specs.ResultType.{result_type};
-ghost use Rattle.expr.specs.Operators.{many, isIn, notIn, by_arity};
+ghost use Rattle.expr.specs.Operators.{many, is_in, not_in, by_arity};
 ghost use Rattle.expr.specs.code.OperatorAnswers.{takes_none, takes_one, takes_many};
 ghost use Rattle.answers.specs.code.Settled.{Settled};
 ghost use Rattle.answers.specs.code.Leaves.{projected_at, steps, bytes_leaf_at, kept_by, keeps, Ready, ReadyLeaf};
@@ -49,7 +49,7 @@ fn project_binary(x: Leaf, s: &[u8], records: &[u16], out: &mut [u8]) -> Answer
 
 // Inclusive keeps In.
 fn keeps_in(question: Question) -> bool
-    ensures { result ≡ kept_by question (many isIn) }
+    ensures { result ≡ kept_by question (many is_in) }
 {
     match question {
         Question::Inclusive => true,
@@ -60,7 +60,7 @@ fn keeps_in(question: Question) -> bool
 
 // Strict keeps NotIn, for older files too.
 fn keeps_not_in(question: Question) -> bool
-    ensures { result ≡ kept_by question (many notIn) }
+    ensures { result ≡ kept_by question (many not_in) }
 {
     match question {
         Question::Inclusive => false,

@@ -6,7 +6,7 @@ ghost use Rattle.values.specs.declared.datatypes.PrimitiveType.TheVariants.{Stri
 ghost use Rattle.partition.specs.code.PartitionAnswers.{number_row};
 ghost use Rattle.partition.specs.ResultType.{result_type};
 ghost use Rattle.sheet.specs.Records.{record_size};
-ghost use Rattle.answers.specs.Answers.{transformedRow, asResult};
+ghost use Rattle.answers.specs.Answers.{transformed_row, as_result};
 ghost use Rattle.answers.specs.code.Settled.{Settled};
 ghost use Rattle.sheet.specs.code.Contents.{row_utf8};
 ghost use Rattle.answers.specs.code.Leaves.{NumberColumn, BytesColumn};
@@ -108,7 +108,7 @@ fn transform_row(
 ) -> Answer
     requires content_value { present ≡ true → fits (layout column) (length content.now) ≡ true }
     requires record_size_in_bounds { record_size ≤ length out.old }
-    ensures { Settled (asResult (transformedRow column transform (row present content.now))) out.old out.new result }
+    ensures { Settled (as_result (transformed_row column transform (row present content.now))) out.old out.new result }
 {
     if !value_encoded(column, present, content) {
         return Answer::Err(ErrorKind::NotUtf8);

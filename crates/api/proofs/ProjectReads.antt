@@ -15,7 +15,7 @@ use Rattle.sheet.specs.laws.ResultLaws.{SheetTold, placed_told, taken_told, leaf
 use Rattle.sheet.specs.laws.SheetLaws.{sheet_read_lem}
 use Rattle.sheet.specs.Sheets.{sheet}
 use Rattle.sheet.specs.declared.sheet.Sheet.{Sheet}
-use Rattle.answers.specs.Answers.{projectedLeaf}
+use Rattle.answers.specs.Answers.{projected_leaf}
 use Rattle.answers.specs.code.Settled.{Settled}
 use Rattle.answers.specs.code.Leaves.{Ready}
 use Rattle.write.specs.Written.{sheet_buffer}
@@ -44,14 +44,14 @@ module _ {s records : List ℕ} {y : Sheet} (t : SheetTold project_limit s recor
       }
 
   pub sheet_answered : (question : Question) {out after : List ℕ} {answer : Answer}
-      → Settled (projectedLeaf question y.head.column y.head.transform (leaf_of [] (by_arity y.head.operator) (contents_at s records y.count))) out after answer
+      → Settled (projected_leaf question y.head.column y.head.transform (leaf_of [] (by_arity y.head.operator) (contents_at s records y.count))) out after answer
       → Settled (project_sheet question s) out after answer
   unfolding project_sheet
   sheet_answered question h = settled_as same h
     where
-      same : (sheet project_limit s >>= λ x. projectedLeaf question x.head.column x.head.transform x.leaf)
-          ≡ projectedLeaf question y.head.column y.head.transform (leaf_of [] (by_arity y.head.operator) (contents_at s records y.count))
+      same : (sheet project_limit s >>= λ x. projected_leaf question x.head.column x.head.transform x.leaf)
+          ≡ projected_leaf question y.head.column y.head.transform (leaf_of [] (by_arity y.head.operator) (contents_at s records y.count))
       same =
           going _ t.is
-          ∙ ap (λ (z : Sheet). projectedLeaf question z.head.column z.head.transform t.x.leaf) (sym t.same)
-          ∙ ap (projectedLeaf question y.head.column y.head.transform) (sym (leaf_told t))
+          ∙ ap (λ (z : Sheet). projected_leaf question z.head.column z.head.transform t.x.leaf) (sym t.same)
+          ∙ ap (projected_leaf question y.head.column y.head.transform) (sym (leaf_told t))

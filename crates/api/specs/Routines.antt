@@ -7,7 +7,7 @@ use Rattle.projection.specs.Steps.{Projected}
 use Rattle.projection.specs.declared.question.Question.{Question}
 use Rattle.sheet.specs.Records.{record_size, value}
 use Rattle.sheet.specs.Sheets.{head, sheet}
-use Rattle.answers.specs.Answers.{projectedLeaf, transformedRow, asResult, answer_of, left_of}
+use Rattle.answers.specs.Answers.{projected_leaf, transformed_row, as_result, answer_of, left_of}
 use Rattle.answers.specs.declared.answer.Answer.{Answer}
 use Rattle.answers.specs.declared.answer.Answer.TheVariants.{BufferTooSmall}
 use Rattle.write.specs.Written.{sheet_buffer}
@@ -18,14 +18,14 @@ use Rattle.write.specs.Written.{sheet_buffer}
 unfoldable pub project_sheet : Question → List ℕ → Res (Projected (List ℕ))
 project_sheet question s = do
   x ← sheet project_limit s
-  projectedLeaf question x.head.column x.head.transform x.leaf
+  projected_leaf question x.head.column x.head.transform x.leaf
 
 -- `transform_literal`: the record of a value's partition value. 01: "For a transform, type, transform and width come as numbers under the head's rules"
 unfoldable pub transform_value : ℕ → ℕ → ℕ → List ℕ → Res (List ℕ)
 transform_value type transform width v = do
   h ← head type transform width
   row ← value (layout h.column) v
-  transformedRow h.column h.transform row
+  transformed_row h.column h.transform row
 
 -- ---- the lent buffer. 01: "result buffer under" `sheet_buffer` "bytes"; 02, #108: "that for one value 128", a record
 abbrev pub value_buffer : ℕ
@@ -48,7 +48,7 @@ module _ (question : Question) (s out : List ℕ) where
 
 module _ (type transform width : ℕ) (v out : List ℕ) where
   abbrev pub transform_answer : Answer
-  transform_answer = answered value_buffer out (asResult (transform_value type transform width v))
+  transform_answer = answered value_buffer out (as_result (transform_value type transform width v))
 
   abbrev pub transform_leaves : List ℕ
-  transform_leaves = left_in value_buffer out (asResult (transform_value type transform width v))
+  transform_leaves = left_in value_buffer out (as_result (transform_value type transform width v))

@@ -23,7 +23,7 @@ use Rattle.values.specs.laws.TestLaws.{clash}
 use Rattle.partition.specs.ResultType.{truncatable, with_days, with_hours, result_type}
 use Rattle.partition.specs.laws.PartitionLaws.{listed_to}
 use Rattle.expr.specs.Holds.{number_tests, missing_meets, meets}
-use Rattle.expr.specs.Operators.{isIn, by_arity}
+use Rattle.expr.specs.Operators.{is_in, by_arity}
 use Rattle.expr.specs.code.OperatorAnswers.{takes_many}
 use Rattle.expr.specs.Predicates.{set}
 use Rattle.expr.specs.declared.operator.PredicateOperator.{PredicateOperator}
@@ -119,11 +119,11 @@ module _ (t : ℤ) (f : SFits w64 t) (above : in_type Long (suc_ℤ t) ≡ true)
   above_is = back above_fits ∙ rw (back f, +ℤ_one t)
 
 module _ (v t : ℤ) where
-  pub first_met : is_equal (compare_numbers v t) ≡ true → true ≡ meets number_tests (set isIn (t ∷ suc_ℤ t ∷ [])) v
+  pub first_met : is_equal (compare_numbers v t) ≡ true → true ≡ meets number_tests (set is_in (t ∷ suc_ℤ t ∷ [])) v
   first_met e = rw e
 
   pub second_asked : {b : Bool} → is_equal (compare_numbers v t) ≡ false → b ≡ is_equal (compare_numbers v (suc_ℤ t))
-      → b ≡ meets number_tests (set isIn (t ∷ suc_ℤ t ∷ [])) v
+      → b ≡ meets number_tests (set is_in (t ∷ suc_ℤ t ∷ [])) v
   second_asked e d = rw (e, or-false) d
 
 -- a set operator that is not In
@@ -148,7 +148,7 @@ module _ (o : PredicateOperator) (t : ℤ) (bs : List ℕ) (several : takes_many
   pub missing_two : there ≡ false → r ≡ held_as (ok (missing_meets (by_arity o))) → r ≡ held_as (ok (meets_two (by_arity o) t (number_row (row there bs))))
   missing_two is e = let k = takes_many_lem (by_arity o) several in rw (is, k.1) (rw k.1 at e)
 
-  module _ (is : there ≡ true) {found : Bool} (told : found ≡ meets number_tests (set isIn (t ∷ suc_ℤ t ∷ [])) (signed (length bs) (le_number bs))) where
+  module _ (is : there ≡ true) {found : Bool} (told : found ≡ meets number_tests (set is_in (t ∷ suc_ℤ t ∷ [])) (signed (length bs) (le_number bs))) where
     pub in_two : o ≡ In → r ≡ held_as (ok found) → r ≡ held_as (ok (meets_two (by_arity o) t (number_row (row there bs))))
     in_two e d = d ∙ rw (is, e, told)
 

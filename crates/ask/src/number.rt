@@ -6,7 +6,7 @@ ghost use Rattle.values.specs.Types.{layout, fits, in_type};
 ghost use Rattle.values.specs.declared.datatypes.PrimitiveType.TheVariants.{Long};
 ghost use Rattle.partition.specs.ResultType.{result_type};
 ghost use Rattle.expr.specs.Holds.{number_tests, meets};
-ghost use Rattle.expr.specs.Operators.{isIn, by_arity};
+ghost use Rattle.expr.specs.Operators.{is_in, by_arity};
 ghost use Rattle.expr.specs.Predicates.{set};
 ghost use Rattle.expr.specs.code.OperatorAnswers.{takes_one, takes_many};
 ghost use Rattle.numbers.specs.code.Boundaries.{number_projected};
@@ -44,7 +44,7 @@ fn test_one(operator: PredicateOperator, l: i64, present: bool, content: &[u8]) 
 // Whether a number is t or the one above it.
 fn is_either(v: i64, t: i64) -> bool
     requires { in_type Long (suc_ℤ t) ≡ true }
-    ensures { result ≡ meets number_tests (set isIn (t ∷ suc_ℤ t ∷ [])) v }
+    ensures { result ≡ meets number_tests (set is_in (t ∷ suc_ℤ t ∷ [])) v }
 {
     if number_meets(PredicateOperator::Eq, v, t) {
         return true;

@@ -27,7 +27,7 @@ use Rattle.projection.specs.declared.question.Question.TheVariants.{Inclusive, S
 use Rattle.sheet.specs.Records.{content, value}
 use Rattle.sheet.specs.Sheets.{head, sheet, fields}
 use Rattle.write.specs.Written.{answer_bytes, answer_sheet}
-use Rattle.answers.specs.Answers.{projectedLeaf, transformedRow, asResult}
+use Rattle.answers.specs.Answers.{projected_leaf, transformed_row, as_result}
 use Rattle.api.specs.Requests.{sheet_of, value_of}
 use Rattle.api.specs.Routines.{project_sheet, transform_value}
 
@@ -38,7 +38,7 @@ Answered = Res (Projected (List ℕ))
 
 -- a value of a type under a transform and a width; a projection of an operator over a type, a transform, a width and literals
 abbrev transforms : ℕ → ℕ → ℕ → List ℕ → Answered
-transforms type transform width v = asResult (transform_value type transform width (value_of v))
+transforms type transform width v = as_result (transform_value type transform width (value_of v))
 
 abbrev projects : Question → ℕ → ℕ → ℕ → ℕ → List (List ℕ) → Answered
 projects question operator type transform width literals = project_sheet question (sheet_of operator type transform width literals)
@@ -96,7 +96,7 @@ starred =
     ∷ []
 
 pub starred_cases : map (λ (c : Case). c.asked) starred ≡ map (λ (c : Case). c.expected) starred
-unfolding project_sheet transform_value sheet fields head transform_of value content projectedLeaf transformedRow result_type
+unfolding project_sheet transform_value sheet fields head transform_of value content projected_leaf transformed_row result_type
     number_partition bytes_partition partition project_numbers project_bytes transform_number transform_bytes in_type
     truncated floor_mod floor_div day_of hour_of in_calendar year_of month_of civil_year civil_month shift count_off before
     leap year_length month_length cycle_year cycle_day year_at month_in month_at first_code_points is_code_point code_points utf8

@@ -35,7 +35,7 @@ use Rattle.projection.specs.declared.question.Question.{Question}
 use Rattle.sheet.specs.Values.{read_bytes}
 use Rattle.meets.specs.Tested.{tested_sheet}
 use Rattle.answers.specs.Kinds.{byte_strings}
-use Rattle.answers.specs.Answers.{transformedRow}
+use Rattle.answers.specs.Answers.{transformed_row}
 use Rattle.answers.specs.laws.BytesLeafLaws.{no_time, not_listed}
 use Rattle.demand.proofs.KindLaws.{KindLaws}
 use Rattle.demand.proofs.ReadBackLaws.{ValueLaws}
@@ -136,7 +136,7 @@ module _ (column to : PrimitiveType) (transform : Transform) (n : ℕ) (result :
 
 unfoldable pub bytes_kind : (column to : PrimitiveType) (transform : Transform) (n : ℕ) → layout column ≡ bytes n → result_type transform column ≡ ok to
     → KindLaws column to transform (byte_strings column transform)
-unfolding bytes_values transformedRow
+unfolding bytes_values transformed_row
 bytes_kind column to transform n is result = record {
   result = result;
   row_write = λ s. s;

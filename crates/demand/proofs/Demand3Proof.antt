@@ -25,7 +25,7 @@ use Rattle.sheet.specs.Sheets.{Head, head, sheet}
 use Rattle.api.specs.Demand3.{type_in, transform_in, width_in, Returns, Accepts, RowOf, NoRowLost, StrictIsSafe, Numeric, StrictIsExact, InclusiveIsExact, Demand3}
 use Rattle.sheet.specs.Values.{by_layout}
 use Rattle.answers.specs.Kinds.{Kind, numbers, byte_strings}
-use Rattle.answers.specs.Answers.{projected, projectedLeaf}
+use Rattle.answers.specs.Answers.{projected, projected_leaf}
 use Rattle.api.specs.Routines.{project_sheet}
 use Rattle.demand.proofs.BytesKindLaws.{bytes_above, bytes_values, all_parts, row_held, bytes_kind}
 use Rattle.demand.proofs.ExactLaws as exact
@@ -51,8 +51,8 @@ ByBytes question s q = By bytes (λ column transform n. byte_strings column tran
 
 module _ (question : Question) (s q : List ℕ) where
   by_layout_lem : (column : PrimitiveType) (transform : Transform) (content : Predicate (List ℕ)) → sheet project_limit s ≡ ok (sheet_of column transform content)
-      → projectedLeaf question column transform content ≡ ok (some q) → ByNumbers question s q ⊎ ByBytes question s q
-  unfolding projectedLeaf
+      → projected_leaf question column transform content ≡ ok (some q) → ByNumbers question s q ⊎ ByBytes question s q
+  unfolding projected_leaf
   by_layout_lem column transform content a e = go (layout column) refl e
     where
       go : (l : Layout) → layout column ≡ l

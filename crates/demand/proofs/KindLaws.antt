@@ -24,7 +24,7 @@ use Rattle.sheet.specs.Values.{each_literal, read_row, map_row, map_literals}
 use Rattle.write.specs.Written.{value_record, answer_sheet}
 use Rattle.api.specs.Demand3.{type_in, transform_in, width_in, RowOf}
 use Rattle.answers.specs.Kinds.{Kind}
-use Rattle.answers.specs.Answers.{projected, transformed, transformedRow}
+use Rattle.answers.specs.Answers.{projected, transformed, transformed_row}
 use Rattle.api.specs.Routines.{transform_value}
 use Rattle.demand.proofs.ReadBackLaws.{sheet_of, ValueLaws, row_good}
 
@@ -40,7 +40,7 @@ pub record KindLaws {A B : Type 0} (column to : PrimitiveType) (transform : Tran
   pub part_good : (r : Row A) (p : Row B) → OfPresent rows.Good r → k.partition r ≡ ok p → OfPresent parts.Good p
   pub project_good : (question : Question) (l : Predicate A) (p : Predicate B) → Landed rows.Good project_limit l
       → k.project question l ≡ ok (some p) → Landed parts.Good holds_limit p
-  pub transforms : (row : Row (List ℕ)) → transformedRow column transform row ≡ transformed k column transform row
+  pub transforms : (row : Row (List ℕ)) → transformed_row column transform row ≡ transformed k column transform row
 
 -- s is read as a leaf, and q is written of the predicate that it is projected to
 pub record Returned {A B : Type 0} (k : Kind A B) (column : PrimitiveType) (transform : Transform) (question : Question) (s q : List ℕ) : Type 0 where

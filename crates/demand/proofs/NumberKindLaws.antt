@@ -39,7 +39,7 @@ use Rattle.sheet.specs.Values.{read_number}
 use Rattle.write.specs.Written.{number_bytes}
 use Rattle.meets.specs.Tested.{tested_sheet}
 use Rattle.answers.specs.Kinds.{numbers}
-use Rattle.answers.specs.Answers.{transformedRow}
+use Rattle.answers.specs.Answers.{transformed_row}
 use Rattle.demand.proofs.KindLaws.{KindLaws}
 use Rattle.demand.proofs.ReadBackLaws.{ValueLaws}
 
@@ -96,7 +96,7 @@ number_literals question column to transform result l p h e =
 
 unfoldable pub number_kind : (column to : PrimitiveType) (transform : Transform) (n : ℕ) → layout column ≡ number n → known transform ≡ true
     → result_type transform column ≡ ok to → KindLaws column to transform (numbers column transform n)
-unfolding number_values transformedRow
+unfolding number_values transformed_row
 number_kind column to transform n is k result =
     let m = number_result_lem column to transform k result n is in
     record {

@@ -24,7 +24,7 @@ use Rattle.sheet.specs.laws.SheetLaws.{sheet_read_lem}
 use Rattle.sheet.specs.Values.{by_layout, each_literal, map_literals}
 use Rattle.write.specs.Written.{answer_sheet}
 use Rattle.answers.specs.Kinds.{Kind, numbers, byte_strings}
-use Rattle.answers.specs.Answers.{projected, projectedLeaf}
+use Rattle.answers.specs.Answers.{projected, projected_leaf}
 use Rattle.api.specs.Demand3.{Accepts}
 use Rattle.api.specs.OlderDemand.{Filed, NoOlderRowLost, OlderIsSafe, OlderIsStrict, OlderDemand}
 use Rattle.api.specs.Routines.{project_sheet}
@@ -97,8 +97,8 @@ answered_by k column transform leaf project = do
   ok (mapped (λ p. answer_sheet to (map_literals (k.write to) p)) q)
 
 leaf_older : (column : PrimitiveType) (transform : Transform) (leaf : Predicate (List ℕ)) → lifted column transform ≡ false
-    → projectedLeaf Older column transform leaf ≡ projectedLeaf Strict column transform leaf
-unfolding projectedLeaf
+    → projected_leaf Older column transform leaf ≡ projected_leaf Strict column transform leaf
+unfolding projected_leaf
 leaf_older column transform leaf plain = go (layout column)
   where
     asked : Layout → Question → Res (Projected (List ℕ))
@@ -114,8 +114,8 @@ unfolding project_sheet
 older_is_strict s plain = go (sheet project_limit s) refl
   where
     go : (r : Res Sheet) → sheet project_limit s ≡ r
-        → (r >>= λ x. projectedLeaf Older x.head.column x.head.transform x.leaf)
-        ≡ (r >>= λ x. projectedLeaf Strict x.head.column x.head.transform x.leaf)
+        → (r >>= λ x. projected_leaf Older x.head.column x.head.transform x.leaf)
+        ≡ (r >>= λ x. projected_leaf Strict x.head.column x.head.transform x.leaf)
     go (ok x) e =
         let read = sheet_read_lem project_limit s x e in
         leaf_older x.head.column x.head.transform x.leaf (refuted _ (λ h. plain (x.head, read.head_is, h)))

@@ -22,7 +22,7 @@ use Rattle.transform.specs.Gregorian.{leap, year_length, cycle_year, year_at}
 use Rattle.transform.specs.Temporal.{day_of}
 use Rattle.partition.specs.Partition.{transform_number, partition, number_partition}
 use Rattle.partition.specs.ResultType.{result_type}
-use Rattle.expr.specs.Operators.{lessThan, greaterThan, isIn, notIn}
+use Rattle.expr.specs.Operators.{less_than, greater_than, is_in, not_in}
 use Rattle.expr.specs.Predicates.{test, binary, set}
 use Rattle.projection.specs.Lifting.{lifted}
 use Rattle.projection.specs.Projection.{project_numbers}
@@ -31,7 +31,7 @@ use Rattle.sheet.specs.Records.{content, value}
 use Rattle.sheet.specs.Sheets.{Head, head, sheet, fields}
 use Rattle.write.specs.Written.{answer_sheet}
 use Rattle.meets.specs.Tested.{tested_sheet}
-use Rattle.answers.specs.Answers.{projectedLeaf, transformedRow}
+use Rattle.answers.specs.Answers.{projected_leaf, transformed_row}
 use Rattle.api.specs.HoldsTest.{holds_test}
 use Rattle.api.specs.Requests.{sheet_of}
 use Rattle.api.specs.Routines.{project_sheet, transform_value}
@@ -58,24 +58,24 @@ not_minus_one = year 206 (negsuc 0)
 
 -- and predicates of theirs: In {-1, 0}, < 0, > -1, > 0 and NotIn {-1, 0}
 abbrev both_years : List ℕ
-both_years = answer_sheet Int (test (set isIn (int (negsuc 0) ∷ int (pos 0) ∷ [])))
+both_years = answer_sheet Int (test (set is_in (int (negsuc 0) ∷ int (pos 0) ∷ [])))
 
 abbrev pub less_nought : List ℕ
-less_nought = answer_sheet Int (test (binary lessThan (int (pos 0))))
+less_nought = answer_sheet Int (test (binary less_than (int (pos 0))))
 
 abbrev pub greater_minus_one : List ℕ
-greater_minus_one = answer_sheet Int (test (binary greaterThan (int (negsuc 0))))
+greater_minus_one = answer_sheet Int (test (binary greater_than (int (negsuc 0))))
 
 abbrev greater_nought : List ℕ
-greater_nought = answer_sheet Int (test (binary greaterThan (int (pos 0))))
+greater_nought = answer_sheet Int (test (binary greater_than (int (pos 0))))
 
 abbrev neither_year : List ℕ
-neither_year = answer_sheet Int (test (set notIn (int (negsuc 0) ∷ int (pos 0) ∷ [])))
+neither_year = answer_sheet Int (test (set not_in (int (negsuc 0) ∷ int (pos 0) ∷ [])))
 
 -- every leaf of a Date by its year has the same head, and so the same rows
 pub year_rows : (operator : ℕ) (day : ℤ) → RowOf (year operator day) (int_value (negsuc 0)) (int_value (negsuc 0))
     × RowOf (year operator day) (int_value (negsuc 1)) (int_value (negsuc 399)) × RowOf (year operator day) blank blank
-unfolding transform_value head transform_of value content transformedRow result_type number_partition partition
+unfolding transform_value head transform_of value content transformed_row result_type number_partition partition
     transform_number in_type day_of floor_div in_calendar year_of civil_year shift year_at cycle_year count_off year_length leap
 year_rows operator day = (refl, refl, refl)
 
@@ -94,7 +94,7 @@ filed_above operator day =
 
 pub returned : Returns Inclusive equals_minus_one both_years × Returns Older below_nought less_nought × Returns Strict from_nought greater_minus_one
     × Returns Older from_nought greater_nought × Returns Older not_minus_one neither_year
-unfolding project_sheet sheet fields head transform_of content projectedLeaf result_type project_numbers
+unfolding project_sheet sheet fields head transform_of content projected_leaf result_type project_numbers
     transform_number in_type day_of floor_div in_calendar year_of civil_year shift year_at cycle_year count_off year_length leap compare_numbers answer_sheet
 returned = (refl, refl, refl, refl, refl)
 

@@ -27,7 +27,7 @@ use Rattle.partition.specs.Partition.{widest_int_width, outside_calendar, by_cal
 use Rattle.partition.specs.ResultType.{is_one_of, for_types, with_days, with_hours, result_type}
 use Rattle.partition.specs.laws.BytesPartitionLaws.{bytes_missing}
 use Rattle.partition.specs.laws.PartitionLaws.{number_missing}
-use Rattle.expr.specs.Operators.{Binary as BinaryOperator, SetOperator, lessThan, lessThanOrEq, greaterThan, greaterThanOrEq, eq, notEq, starts_with, notStartsWith, isIn, notIn}
+use Rattle.expr.specs.Operators.{Binary as BinaryOperator, SetOperator, less_than, less_than_or_eq, greater_than, greater_than_or_eq, eq, not_eq, starts_with, not_starts_with, is_in, not_in}
 use Rattle.expr.specs.Predicates.{Test, binary, set, Predicate, unary, test}
 use Rattle.projection.specs.ByteSteps.{Step, by_length, string_starts, string_not_starts, binary_starts, binary_not_starts, inclusive_bytes, strict_bytes}
 use Rattle.projection.specs.NumberSteps.{one_below, one_above, inclusive_number, strict_number}
@@ -59,61 +59,61 @@ module _ {P : ErrorKind → Type 0} (six : P DataInvalid) (eight : P Overflow) w
     above_only o l = literal_only o (one_above column T l) (only_need (in_type column (suc_ℤ l)) Overflow (T (suc_ℤ l)) eight (h (suc_ℤ l)))
 
     inclusive_numbers : (x : Test ℤ) → Only P (inclusive_number column T x)
-    inclusive_numbers (binary lessThan l) = below_only lessThanOrEq l
-    inclusive_numbers (binary lessThanOrEq l) = literal_only lessThanOrEq (T l) (h l)
-    inclusive_numbers (binary greaterThan l) = above_only greaterThanOrEq l
-    inclusive_numbers (binary greaterThanOrEq l) = literal_only greaterThanOrEq (T l) (h l)
+    inclusive_numbers (binary less_than l) = below_only less_than_or_eq l
+    inclusive_numbers (binary less_than_or_eq l) = literal_only less_than_or_eq (T l) (h l)
+    inclusive_numbers (binary greater_than l) = above_only greater_than_or_eq l
+    inclusive_numbers (binary greater_than_or_eq l) = literal_only greater_than_or_eq (T l) (h l)
     inclusive_numbers (binary eq l) = literal_only eq (T l) (h l)
-    inclusive_numbers (binary notEq l) = only_ok
+    inclusive_numbers (binary not_eq l) = only_ok
     inclusive_numbers (binary starts_with l) = literal_only starts_with (T l) (h l)
-    inclusive_numbers (binary notStartsWith l) = literal_only notStartsWith (T l) (h l)
-    inclusive_numbers (set isIn ls) = set_only compare_numbers isIn T h ls
-    inclusive_numbers (set notIn ls) = only_ok
+    inclusive_numbers (binary not_starts_with l) = literal_only not_starts_with (T l) (h l)
+    inclusive_numbers (set is_in ls) = set_only compare_numbers is_in T h ls
+    inclusive_numbers (set not_in ls) = only_ok
 
     strict_numbers : (x : Test ℤ) → Only P (strict_number column T x)
-    strict_numbers (binary lessThan l) = literal_only lessThan (T l) (h l)
-    strict_numbers (binary lessThanOrEq l) = above_only lessThan l
-    strict_numbers (binary greaterThan l) = literal_only greaterThan (T l) (h l)
-    strict_numbers (binary greaterThanOrEq l) = below_only greaterThan l
+    strict_numbers (binary less_than l) = literal_only less_than (T l) (h l)
+    strict_numbers (binary less_than_or_eq l) = above_only less_than l
+    strict_numbers (binary greater_than l) = literal_only greater_than (T l) (h l)
+    strict_numbers (binary greater_than_or_eq l) = below_only greater_than l
     strict_numbers (binary eq l) = only_ok
-    strict_numbers (binary notEq l) = literal_only notEq (T l) (h l)
+    strict_numbers (binary not_eq l) = literal_only not_eq (T l) (h l)
     strict_numbers (binary starts_with l) = only_ok
-    strict_numbers (binary notStartsWith l) = only_ok
-    strict_numbers (set isIn ls) = only_ok
-    strict_numbers (set notIn ls) = set_only compare_numbers notIn T h ls
+    strict_numbers (binary not_starts_with l) = only_ok
+    strict_numbers (set is_in ls) = only_ok
+    strict_numbers (set not_in ls) = set_only compare_numbers not_in T h ls
 
   module _ (T : List ℕ → Res (List ℕ)) (count : List ℕ → ℕ) (w : ℕ) (h : (l : List ℕ) → Only P (T l)) where
     length_only : (n : ℕ) (whole short : Projected (Test (List ℕ))) (long : Step) → Only P long → Only P (by_length n w whole short long)
     length_only n whole short long k = only_cond (eqb n w) (ok whole) _ only_ok (only_cond (ltb n w) (ok short) long only_ok k)
 
     inclusive_bytes_lem : (column : PrimitiveType) (x : Test (List ℕ)) → Only P (inclusive_bytes column T count w x)
-    inclusive_bytes_lem column (binary lessThan l) = literal_only lessThanOrEq (T l) (h l)
-    inclusive_bytes_lem column (binary lessThanOrEq l) = literal_only lessThanOrEq (T l) (h l)
-    inclusive_bytes_lem column (binary greaterThan l) = literal_only greaterThanOrEq (T l) (h l)
-    inclusive_bytes_lem column (binary greaterThanOrEq l) = literal_only greaterThanOrEq (T l) (h l)
+    inclusive_bytes_lem column (binary less_than l) = literal_only less_than_or_eq (T l) (h l)
+    inclusive_bytes_lem column (binary less_than_or_eq l) = literal_only less_than_or_eq (T l) (h l)
+    inclusive_bytes_lem column (binary greater_than l) = literal_only greater_than_or_eq (T l) (h l)
+    inclusive_bytes_lem column (binary greater_than_or_eq l) = literal_only greater_than_or_eq (T l) (h l)
     inclusive_bytes_lem column (binary eq l) = literal_only eq (T l) (h l)
-    inclusive_bytes_lem column (binary notEq l) = only_ok
+    inclusive_bytes_lem column (binary not_eq l) = only_ok
     inclusive_bytes_lem column (binary starts_with l) =
         let cut = literal_only starts_with (T l) (h l) in
         only_cond (same_type column String) (string_starts T count w l) (binary_starts T l) (length_only (count l) _ _ _ cut) cut
-    inclusive_bytes_lem column (binary notStartsWith l) =
+    inclusive_bytes_lem column (binary not_starts_with l) =
         only_cond (same_type column String) (string_not_starts T count w l) (binary_not_starts T count w l)
         (length_only (count l) _ _ _ only_ok)
-        (only_cond (leb (count l) w) _ _ (literal_only notStartsWith (T l) (h l)) only_ok)
-    inclusive_bytes_lem column (set isIn ls) = set_only compare_bytes isIn T h ls
-    inclusive_bytes_lem column (set notIn ls) = only_ok
+        (only_cond (leb (count l) w) _ _ (literal_only not_starts_with (T l) (h l)) only_ok)
+    inclusive_bytes_lem column (set is_in ls) = set_only compare_bytes is_in T h ls
+    inclusive_bytes_lem column (set not_in ls) = only_ok
 
     strict_bytes_lem : (x : Test (List ℕ)) → Only P (strict_bytes T count w x)
-    strict_bytes_lem (binary lessThan l) = literal_only lessThan (T l) (h l)
-    strict_bytes_lem (binary lessThanOrEq l) = literal_only lessThan (T l) (h l)
-    strict_bytes_lem (binary greaterThan l) = literal_only greaterThan (T l) (h l)
-    strict_bytes_lem (binary greaterThanOrEq l) = literal_only greaterThan (T l) (h l)
+    strict_bytes_lem (binary less_than l) = literal_only less_than (T l) (h l)
+    strict_bytes_lem (binary less_than_or_eq l) = literal_only less_than (T l) (h l)
+    strict_bytes_lem (binary greater_than l) = literal_only greater_than (T l) (h l)
+    strict_bytes_lem (binary greater_than_or_eq l) = literal_only greater_than (T l) (h l)
     strict_bytes_lem (binary eq l) = only_ok
-    strict_bytes_lem (binary notEq l) = literal_only notEq (T l) (h l)
+    strict_bytes_lem (binary not_eq l) = literal_only not_eq (T l) (h l)
     strict_bytes_lem (binary starts_with l) = length_only (count l) _ _ _ only_ok
-    strict_bytes_lem (binary notStartsWith l) = length_only (count l) _ _ _ (literal_only notStartsWith (T l) (h l))
-    strict_bytes_lem (set isIn ls) = only_ok
-    strict_bytes_lem (set notIn ls) = set_only compare_bytes notIn T h ls
+    strict_bytes_lem (binary not_starts_with l) = length_only (count l) _ _ _ (literal_only not_starts_with (T l) (h l))
+    strict_bytes_lem (set is_in ls) = only_ok
+    strict_bytes_lem (set not_in ls) = set_only compare_bytes not_in T h ls
 
   -- ---- T, of a transform with steps: Void alone gives missing
   value_only : {B : Type 0} (r : Res (Row B)) → Only P r → (r ≡ ok missing → ⊥) → Only P (r >>= value_in)

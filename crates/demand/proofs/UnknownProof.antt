@@ -28,7 +28,7 @@ use Rattle.sheet.specs.Values.{read_bytes, each_literal, read_row, by_layout}
 use Rattle.sheet.specs.laws.RefusalLaws.{Only, only_ok, only_err, only_bind, only_then, only_need, only_wider, only_each}
 use Rattle.sheet.specs.laws.RefusalLaws.{malformed, value_only, head_only, sheet_only}
 use Rattle.sheet.specs.laws.SheetLaws.{sheet_read_lem}
-use Rattle.answers.specs.Answers.{projected, projectedLeaf, transformed, transformedRow}
+use Rattle.answers.specs.Answers.{projected, projected_leaf, transformed, transformed_row}
 use Rattle.answers.specs.Kinds.{Kind, numbers, byte_strings}
 use Rattle.api.specs.Demand3.{transform_in}
 use Rattle.api.specs.Routines.{project_sheet, transform_value}
@@ -150,8 +150,8 @@ module _ (column : PrimitiveType) (transform : Transform) where
     parts = λ to e row. part_only transform (transform_bytes column transform) (bytes_only six eight column to n is transform seven e) row;
   }
 
-  leaf_only : (question : Question) (leaf : Predicate (List ℕ)) → Only (Unknowns transform) (projectedLeaf question column transform leaf)
-  unfolding projectedLeaf
+  leaf_only : (question : Question) (leaf : Predicate (List ℕ)) → Only (Unknowns transform) (projected_leaf question column transform leaf)
+  unfolding projected_leaf
   leaf_only question leaf = go (layout column) refl
     where
       go : (l : Layout) → layout column ≡ l → Only (Unknowns transform) (by_layout l
@@ -159,8 +159,8 @@ module _ (column : PrimitiveType) (transform : Transform) where
       go (number n) is = projected_only column transform (number_refusals n) question leaf
       go (bytes n) is = projected_only column transform (bytes_refusals n is) question leaf
 
-  value_row_only : (row : Row (List ℕ)) → Only (Unknowns transform) (transformedRow column transform row)
-  unfolding transformedRow
+  value_row_only : (row : Row (List ℕ)) → Only (Unknowns transform) (transformed_row column transform row)
+  unfolding transformed_row
   value_row_only row = go (layout column) refl
     where
       go : (l : Layout) → layout column ≡ l → Only (Unknowns transform) (by_layout l

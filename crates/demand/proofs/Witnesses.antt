@@ -24,7 +24,7 @@ use Rattle.partition.specs.Partition.{transform_number, transform_bytes, partiti
 use Rattle.partition.specs.ResultType.{result_type}
 use Rattle.transform.specs.Temporal.{day_of}
 use Rattle.transform.specs.Truncate.{truncated, first_bytes}
-use Rattle.expr.specs.Operators.{lessThanOrEq, lessThan, notEq, starts_with, notStartsWith, isIn}
+use Rattle.expr.specs.Operators.{less_than_or_eq, less_than, not_eq, starts_with, not_starts_with, is_in}
 use Rattle.expr.specs.Predicates.{test, binary, set}
 use Rattle.projection.specs.Projection.{project_numbers, project_bytes}
 use Rattle.projection.specs.declared.question.Question.TheVariants.{Inclusive, Strict}
@@ -33,7 +33,7 @@ use Rattle.sheet.specs.Sheets.{head, sheet, fields}
 use Rattle.write.specs.Written.{value_record, answer_sheet}
 use Rattle.api.specs.HoldsTest.{holds_test}
 use Rattle.meets.specs.Tested.{tested_sheet}
-use Rattle.answers.specs.Answers.{projectedLeaf, transformedRow}
+use Rattle.answers.specs.Answers.{projected_leaf, transformed_row}
 use Rattle.api.specs.Requests.{sheet_of, value_of}
 use Rattle.api.specs.Routines.{project_sheet, transform_value}
 use Rattle.demand.proofs.RecordBytes.{record_bytes}
@@ -50,10 +50,10 @@ abbrev pub below300 : List ℕ
 below300 = sheet_of 201 1 1 10 (int (pos 300) ∷ [])
 
 abbrev pub at_most290 : List ℕ
-at_most290 = answer_sheet Int (test (binary lessThanOrEq (int (pos 290))))
+at_most290 = answer_sheet Int (test (binary less_than_or_eq (int (pos 290))))
 
 abbrev pub less300 : List ℕ
-less300 = answer_sheet Int (test (binary lessThan (int (pos 300))))
+less300 = answer_sheet Int (test (binary less_than (int (pos 300))))
 
 abbrev pub five : List ℕ
 five = int_value (pos 5)
@@ -62,11 +62,11 @@ abbrev pub nought : List ℕ
 nought = int_value (pos 0)
 
 pub row_of_nought : RowOf below300 nought five
-unfolding transform_value head transform_of value content transformedRow result_type number_partition partition transform_number in_type truncated floor_mod
+unfolding transform_value head transform_of value content transformed_row result_type number_partition partition transform_number in_type truncated floor_mod
 row_of_nought = refl
 
 pub returned : Returns Inclusive below300 at_most290 × Returns Strict below300 less300
-unfolding project_sheet sheet fields head transform_of content projectedLeaf result_type project_numbers transform_number in_type truncated floor_mod answer_sheet
+unfolding project_sheet sheet fields head transform_of content projected_leaf result_type project_numbers transform_number in_type truncated floor_mod answer_sheet
 returned = (refl, refl)
 
 accepted : Accepts below300 five × Accepts less300 nought
@@ -93,18 +93,18 @@ abbrev last_of1969 : List ℕ
 last_of1969 = sheet_of 205 3 2 0 (int (negsuc 0) ∷ [])
 
 abbrev both_years : List ℕ
-both_years = answer_sheet Int (test (set isIn (int (negsuc 0) ∷ int (pos 0) ∷ [])))
+both_years = answer_sheet Int (test (set is_in (int (negsuc 0) ∷ int (pos 0) ∷ [])))
 
 abbrev minus_one : List ℕ
 minus_one = int_value (negsuc 0)
 
 rows_of_years : RowOf last_of1969 nought nought × RowOf last_of1969 minus_one minus_one
-unfolding transform_value head transform_of value content transformedRow result_type number_partition partition
+unfolding transform_value head transform_of value content transformed_row result_type number_partition partition
     transform_number in_type day_of floor_div in_calendar year_of civil_year shift year_at cycle_year count_off year_length leap
 rows_of_years = (refl, refl)
 
 years_returned : Returns Inclusive last_of1969 both_years
-unfolding project_sheet sheet fields head transform_of content projectedLeaf result_type project_numbers
+unfolding project_sheet sheet fields head transform_of content projected_leaf result_type project_numbers
     transform_number in_type day_of floor_div in_calendar year_of civil_year shift year_at cycle_year count_off year_length leap compare_numbers answer_sheet
 years_returned = refl
 
@@ -140,7 +140,7 @@ abbrev not_starts_abc : List ℕ
 not_starts_abc = sheet_of 208 10 1 2 (abc ∷ [])
 
 abbrev pub not_starts_ab : List ℕ
-not_starts_ab = answer_sheet Binary (test (binary notStartsWith (ascii "ab")))
+not_starts_ab = answer_sheet Binary (test (binary not_starts_with (ascii "ab")))
 
 abbrev no_text : List ℕ
 no_text = value_of (0x62 ∷ 0x80 ∷ 0 ∷ [])
@@ -149,11 +149,11 @@ abbrev no_text_part : List ℕ
 no_text_part = value_of (0x62 ∷ 0x80 ∷ [])
 
 binary_rows : RowOf starts_abc (value_of (ascii "ab")) (value_of (ascii "abcd")) × RowOf not_starts_abc no_text_part no_text
-unfolding transform_value head transform_of value content transformedRow result_type bytes_partition partition transform_bytes first_bytes
+unfolding transform_value head transform_of value content transformed_row result_type bytes_partition partition transform_bytes first_bytes
 binary_rows = (refl, refl)
 
 pub binary_returned : Returns Inclusive starts_abc starts_ab × Returns Strict not_starts_abc not_starts_ab
-unfolding project_sheet sheet fields head transform_of content projectedLeaf result_type project_bytes transform_bytes first_bytes answer_sheet
+unfolding project_sheet sheet fields head transform_of content projected_leaf result_type project_bytes transform_bytes first_bytes answer_sheet
 binary_returned = (refl, refl)
 
 binary_accepted : Accepts starts_abc (value_of (ascii "abcd")) × Accepts not_starts_ab no_text_part
@@ -178,14 +178,14 @@ abbrev pub not_five : List ℕ
 not_five = sheet_of 206 1 1 10 (int (pos 5) ∷ [])
 
 abbrev pub not_nought : List ℕ
-not_nought = answer_sheet Int (test (binary notEq (int (pos 0))))
+not_nought = answer_sheet Int (test (binary not_eq (int (pos 0))))
 
 pub blank_rows : RowOf not_starts_ab_leaf blank blank × RowOf not_starts_abc blank blank × RowOf not_five blank blank
-unfolding transform_value head transform_of value transformedRow result_type number_partition bytes_partition partition
+unfolding transform_value head transform_of value transformed_row result_type number_partition bytes_partition partition
 blank_rows = (refl, refl, refl)
 
 pub blank_returned : Returns Inclusive not_starts_ab_leaf not_starts_ab × Returns Strict not_five not_nought
-unfolding project_sheet sheet fields head transform_of content projectedLeaf result_type project_numbers project_bytes transform_number transform_bytes first_bytes in_type
+unfolding project_sheet sheet fields head transform_of content projected_leaf result_type project_numbers project_bytes transform_number transform_bytes first_bytes in_type
     truncated floor_mod answer_sheet
 blank_returned = (refl, refl)
 

@@ -31,13 +31,13 @@ operator_number NotIn = 302
 -- ---- by how many literals they take: the same operators once more, so that a predicate cannot have a wrong number of literals
 
 pub data Unary : Type 0 where
-  is_null notNull is_nan notNan : Unary
+  is_null not_null is_nan not_nan : Unary
 
 pub data Binary : Type 0 where
-  lessThan lessThanOrEq greaterThan greaterThanOrEq eq notEq starts_with notStartsWith : Binary
+  less_than less_than_or_eq greater_than greater_than_or_eq eq not_eq starts_with not_starts_with : Binary
 
 pub data SetOperator : Type 0 where
-  isIn notIn : SetOperator
+  is_in not_in : SetOperator
 
 -- an operator, told by how many literals it takes. 01: "101–104 take no literal, 201–208 one, 301–302 from 0 to 64"
 pub data Operator : Type 0 where
@@ -54,54 +54,54 @@ holds_limit = 128
 
 abbrev pub by_arity : PredicateOperator → Operator
 by_arity IsNull = none is_null
-by_arity NotNull = none notNull
+by_arity NotNull = none not_null
 by_arity IsNan = none is_nan
-by_arity NotNan = none notNan
-by_arity LessThan = one lessThan
-by_arity LessThanOrEq = one lessThanOrEq
-by_arity GreaterThan = one greaterThan
-by_arity GreaterThanOrEq = one greaterThanOrEq
+by_arity NotNan = none not_nan
+by_arity LessThan = one less_than
+by_arity LessThanOrEq = one less_than_or_eq
+by_arity GreaterThan = one greater_than
+by_arity GreaterThanOrEq = one greater_than_or_eq
 by_arity Eq = one eq
-by_arity NotEq = one notEq
+by_arity NotEq = one not_eq
 by_arity StartsWith = one starts_with
-by_arity NotStartsWith = one notStartsWith
-by_arity In = many isIn
-by_arity NotIn = many notIn
+by_arity NotStartsWith = one not_starts_with
+by_arity In = many is_in
+by_arity NotIn = many not_in
 
 abbrev pub operator_of : Operator → PredicateOperator
 operator_of (none is_null) = IsNull
-operator_of (none notNull) = NotNull
+operator_of (none not_null) = NotNull
 operator_of (none is_nan) = IsNan
-operator_of (none notNan) = NotNan
-operator_of (one lessThan) = LessThan
-operator_of (one lessThanOrEq) = LessThanOrEq
-operator_of (one greaterThan) = GreaterThan
-operator_of (one greaterThanOrEq) = GreaterThanOrEq
+operator_of (none not_nan) = NotNan
+operator_of (one less_than) = LessThan
+operator_of (one less_than_or_eq) = LessThanOrEq
+operator_of (one greater_than) = GreaterThan
+operator_of (one greater_than_or_eq) = GreaterThanOrEq
 operator_of (one eq) = Eq
-operator_of (one notEq) = NotEq
+operator_of (one not_eq) = NotEq
 operator_of (one starts_with) = StartsWith
-operator_of (one notStartsWith) = NotStartsWith
-operator_of (many isIn) = In
-operator_of (many notIn) = NotIn
+operator_of (one not_starts_with) = NotStartsWith
+operator_of (many is_in) = In
+operator_of (many not_in) = NotIn
 
 -- 02: "its opposite operator": it holds of a present value exactly where the other does not
 abbrev pub opposite_binary : Binary → Binary
-opposite_binary lessThan = greaterThanOrEq
-opposite_binary lessThanOrEq = greaterThan
-opposite_binary greaterThan = lessThanOrEq
-opposite_binary greaterThanOrEq = lessThan
-opposite_binary eq = notEq
-opposite_binary notEq = eq
-opposite_binary starts_with = notStartsWith
-opposite_binary notStartsWith = starts_with
+opposite_binary less_than = greater_than_or_eq
+opposite_binary less_than_or_eq = greater_than
+opposite_binary greater_than = less_than_or_eq
+opposite_binary greater_than_or_eq = less_than
+opposite_binary eq = not_eq
+opposite_binary not_eq = eq
+opposite_binary starts_with = not_starts_with
+opposite_binary not_starts_with = starts_with
 
 -- <, ≤, > and ≥ ask for an order to the literal, the others whether the value is it or starts with it
 abbrev pub ordered : Binary → Bool
-ordered lessThan = true
-ordered lessThanOrEq = true
-ordered greaterThan = true
-ordered greaterThanOrEq = true
+ordered less_than = true
+ordered less_than_or_eq = true
+ordered greater_than = true
+ordered greater_than_or_eq = true
 ordered eq = false
-ordered notEq = false
+ordered not_eq = false
 ordered starts_with = false
-ordered notStartsWith = false
+ordered not_starts_with = false

@@ -23,7 +23,7 @@ use Rattle.projection.specs.declared.question.Question.TheVariants.{Inclusive, S
 use Rattle.sheet.specs.Records.{content, value}
 use Rattle.sheet.specs.Sheets.{head, sheet, fields}
 use Rattle.write.specs.Written.{value_record, answer_sheet}
-use Rattle.answers.specs.Answers.{transformedRow}
+use Rattle.answers.specs.Answers.{transformed_row}
 use Rattle.api.specs.Demand3.{type_in, Returns, RowOf, Numeric}
 use Rattle.api.specs.Requests.{sheet_of, value_of}
 use Rattle.api.specs.Routines.{transform_value}
@@ -49,7 +49,7 @@ abbrev low : List ℕ
 low = summary_of 1 0 (int (pos 0)) (int (pos 2))
 
 pub rows : RowOf below300 (int_value (pos 300)) (int_value (pos 305)) × RowOf below300 (int_value (pos 0)) (int_value (pos 5))
-unfolding transform_value head transform_of value content transformedRow result_type number_partition partition transform_number in_type truncated floor_mod
+unfolding transform_value head transform_of value content transformed_row result_type number_partition partition transform_number in_type truncated floor_mod
 rows = (refl, refl)
 
 verdicts : Skips at_most290 high × Wholly less300 low
@@ -124,7 +124,7 @@ abbrev alone : List ℕ
 alone = summary_of 10 0 (ascii "ab") (ascii "ab")
 
 binary_row : RowOf starts_abc (value_of (ascii "ad")) (value_of (ascii "adx"))
-unfolding transform_value head transform_of value content transformedRow result_type bytes_partition partition transform_bytes first_bytes
+unfolding transform_value head transform_of value content transformed_row result_type bytes_partition partition transform_bytes first_bytes
 binary_row = refl
 
 binary_verdicts : Skips starts_ab after × (test_summary starts_ab alone ≡ ok Read)
@@ -158,7 +158,7 @@ abbrev tens : List ℕ
 tens = summary_of 1 1 (int (pos 10)) (int (pos 20))
 
 blank_below : RowOf below300 blank blank
-unfolding transform_value head transform_of value transformedRow result_type number_partition partition
+unfolding transform_value head transform_of value transformed_row result_type number_partition partition
 blank_below = refl
 
 flagged_verdicts : Skips at_most290 high_and_missing × Wholly not_nought tens

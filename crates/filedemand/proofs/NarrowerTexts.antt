@@ -9,7 +9,7 @@ use Rattle.values.specs.Order.{compare_bytes, is_less}
 use Rattle.values.specs.laws.OrderLaws.{is_less_lem, not_below, irreflexive, at_most_less, less_at_most, bytes_order}
 use Rattle.values.specs.laws.SomeLaws.{some_iff, every_iff}
 use Rattle.values.specs.laws.TestLaws.{clash, refuted, or_cases, or_left, or_right, and_both, both_and}
-use Rattle.expr.specs.Operators.{Binary, lessThan, lessThanOrEq, greaterThan, greaterThanOrEq, eq, notEq, starts_with, notStartsWith, SetOperator, isIn, notIn, one}
+use Rattle.expr.specs.Operators.{Binary, less_than, less_than_or_eq, greater_than, greater_than_or_eq, eq, not_eq, starts_with, not_starts_with, SetOperator, is_in, not_in, one}
 use Rattle.expr.specs.Predicates.{Predicate, unary, test, binary, set}
 use Rattle.summary.specs.EndValues.{ordered, lies_in}
 use Rattle.summary.specs.Summaries.{Ends, none_present, ◌to◌}
@@ -47,12 +47,12 @@ module _ (l h m k : List ℕ) (in_order : ordered compare_bytes (l to h) ≡ tru
   still_outside x e = ap not (refuted _ (λ i. clash (within x i) (not-true _ e)))
 
   of_binary : (o : Binary) (x : List ℕ) → binary_ruled_out m k o x ≡ true → binary_ruled_out l h o x ≡ true
-  of_binary lessThan x e = by_ends lessThan x refl e
-  of_binary lessThanOrEq x e = by_ends lessThanOrEq x refl e
-  of_binary greaterThan x e = by_ends greaterThan x refl e
-  of_binary greaterThanOrEq x e = by_ends greaterThanOrEq x refl e
+  of_binary less_than x e = by_ends less_than x refl e
+  of_binary less_than_or_eq x e = by_ends less_than_or_eq x refl e
+  of_binary greater_than x e = by_ends greater_than x refl e
+  of_binary greater_than_or_eq x e = by_ends greater_than_or_eq x refl e
   of_binary eq x e = still_outside x e
-  of_binary notEq x e = by_ends notEq x refl e
+  of_binary not_eq x e = by_ends not_eq x refl e
   of_binary starts_with x e =
       let other = ruled_out_none (test (binary starts_with x)) (m to k) l e low_in in
       ⊎_elim
@@ -60,11 +60,11 @@ module _ (l h m k : List ℕ) (in_order : ordered compare_bytes (l to h) ≡ tru
       (λ above. let higher = less_at_most bytes_order x m l ((is_less_lem _).0 (and_both _ _ above).0) (not_lower m k l low_in) in
       or_right (is_less (compare_bytes h x)) (both_and (ap is_less higher) (ap not other)))
       (or_cases _ _ e)
-  of_binary notStartsWith x e = by_ends notStartsWith x refl e
+  of_binary not_starts_with x e = by_ends not_starts_with x refl e
 
   of_set : (o : SetOperator) (xs : List (List ℕ)) → set_ruled_out m k o xs ≡ true → set_ruled_out l h o xs ≡ true
-  of_set isIn xs e = (every_iff (outside l h) xs).1 (λ x at. still_outside x ((every_iff (outside m k) xs).0 e x at))
-  of_set notIn xs e = let x = (some_iff (both_are m k) xs).0 e in (some_iff (both_are l h) xs).1 (x.0, x.1, of_binary notEq x.0 x.2)
+  of_set is_in xs e = (every_iff (outside l h) xs).1 (λ x at. still_outside x ((every_iff (outside m k) xs).0 e x at))
+  of_set not_in xs e = let x = (some_iff (both_are m k) xs).0 e in (some_iff (both_are l h) xs).1 (x.0, x.1, of_binary not_eq x.0 x.2)
 
 pub ruled_out_within : (p : Predicate (List ℕ)) (narrow wide : Ends (List ℕ)) → ordered compare_bytes narrow ≡ true → Within narrow wide
     → ruled_out p wide ≡ true → ruled_out p narrow ≡ true

@@ -15,14 +15,14 @@ use Rattle.transform.specs.Gregorian.{leap, year_length, cycle_year, year_at}
 use Rattle.transform.specs.Temporal.{day_of}
 use Rattle.partition.specs.Partition.{transform_number}
 use Rattle.partition.specs.ResultType.{result_type}
-use Rattle.expr.specs.Operators.{greaterThanOrEq}
+use Rattle.expr.specs.Operators.{greater_than_or_eq}
 use Rattle.expr.specs.Predicates.{test, binary}
 use Rattle.projection.specs.Projection.{project_numbers}
 use Rattle.projection.specs.declared.question.Question.TheVariants.{Inclusive, Strict, Older}
 use Rattle.sheet.specs.Records.{content, value}
 use Rattle.sheet.specs.Sheets.{head, sheet, fields}
 use Rattle.write.specs.Written.{answer_sheet}
-use Rattle.answers.specs.Answers.{projectedLeaf}
+use Rattle.answers.specs.Answers.{projected_leaf}
 use Rattle.api.specs.Demand3.{Returns, Accepts}
 use Rattle.api.specs.OlderDemand.{Filed}
 use Rattle.api.specs.Routines.{project_sheet}
@@ -48,10 +48,10 @@ abbrev from1971 : List ℕ
 from1971 = year 204 (pos 365)
 
 abbrev at_least_one : List ℕ
-at_least_one = answer_sheet Int (test (binary greaterThanOrEq (int (pos 1))))
+at_least_one = answer_sheet Int (test (binary greater_than_or_eq (int (pos 1))))
 
 from1971_returned : Returns Inclusive from1971 at_least_one
-unfolding project_sheet sheet fields head transform_of content projectedLeaf result_type project_numbers
+unfolding project_sheet sheet fields head transform_of content projected_leaf result_type project_numbers
     transform_number in_type day_of floor_div in_calendar year_of civil_year shift year_at cycle_year count_off year_length leap compare_numbers answer_sheet
 from1971_returned = refl
 

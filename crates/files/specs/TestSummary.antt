@@ -4,7 +4,7 @@ use Rattle.values.specs.Outcomes.{Res, ok, ◌>>=◌}
 use Rattle.expr.specs.Operators.{holds_limit}
 use Rattle.projection.specs.Steps.{Projected}
 use Rattle.sheet.specs.Sheets.{sheet}
-use Rattle.answers.specs.Answers.{asResult}
+use Rattle.answers.specs.Answers.{as_result}
 use Rattle.answers.specs.declared.answer.Answer.{Answer}
 use Rattle.api.specs.Routines.{answered, left_in}
 use Rattle.summary.specs.Summaries.{summary}
@@ -24,7 +24,7 @@ abbrev pub verdict_buffer : ℕ
 verdict_buffer = 1
 
 abbrev pub verdict_byte : Res Verdict → Res (Projected (List ℕ))
-verdict_byte r = asResult do
+verdict_byte r = as_result do
   v ← r
   ok (verdict_number v ∷ [])
 

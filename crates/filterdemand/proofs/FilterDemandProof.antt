@@ -20,7 +20,7 @@ use Rattle.sheet.specs.laws.RecordLaws.{field_bytes}
 use Rattle.sheet.specs.Records.{record_size, record_at}
 use Rattle.sheet.specs.Sheets.{Head, head, sheet}
 use Rattle.meets.specs.Tested.{tested_sheet}
-use Rattle.answers.specs.Answers.{projectedLeaf}
+use Rattle.answers.specs.Answers.{projected_leaf}
 use Rattle.api.specs.Demand3.{type_in, transform_in, width_in, RowOf, Accepts}
 use Rattle.api.specs.OlderDemand.{Filed}
 use Rattle.api.specs.HoldsTest.{holds_test}
@@ -194,9 +194,9 @@ unfolding filter_parts project_sheet
 one_leaf_parts question c t p cells l bytes a h =
     let f = leaf_of_lem cells t l h in
     let cell = leaf_cell parts c p cells a l f in
-    let projects : project_sheet question (sheet_in c l) ≡ projectedLeaf question l.head.column l.head.transform (predicate_in l)
+    let projects : project_sheet question (sheet_in c l) ≡ projected_leaf question l.head.column l.head.transform (predicate_in l)
     = going _ (leaf_read parts c p cells a l f project_limit (omega arith))
-    ∙ ap (λ transform. projectedLeaf question l.head.column transform (predicate_in l)) (width_whole parts c p cells a l f bytes) in
+    ∙ ap (λ transform. projected_leaf question l.head.column transform (predicate_in l)) (width_whole parts c p cells a l f bytes) in
     going _ a
     ∙ going _ h.1
     ∙ ap (answered (part_answer question cells)) h.2

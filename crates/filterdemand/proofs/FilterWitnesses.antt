@@ -25,14 +25,14 @@ use Rattle.transform.specs.Floor.{floor_mod}
 use Rattle.transform.specs.Truncate.{truncated, first_code_points}
 use Rattle.partition.specs.Partition.{transform_number, transform_bytes, partition, number_partition, bytes_partition}
 use Rattle.partition.specs.ResultType.{result_type}
-use Rattle.expr.specs.Operators.{lessThan, eq, ordered}
+use Rattle.expr.specs.Operators.{less_than, eq, ordered}
 use Rattle.projection.specs.Projection.{project_numbers, project_bytes}
 use Rattle.projection.specs.declared.question.Question.TheVariants.{Inclusive, Strict}
 use Rattle.sheet.specs.Records.{record_size, record_at, content, value}
 use Rattle.sheet.specs.Sheets.{head_size, Head, head, fields}
 use Rattle.write.specs.Written.{value_record}
 use Rattle.meets.specs.Tested.{tested_sheet}
-use Rattle.answers.specs.Answers.{transformedRow}
+use Rattle.answers.specs.Answers.{transformed_row}
 use Rattle.api.specs.Demand3.{RowOf}
 use Rattle.api.specs.Requests.{value_of}
 use Rattle.api.specs.Routines.{transform_value}
@@ -93,7 +93,7 @@ abbrev IsRow : List ℕ → List ℕ → ℕ → Type 0
 IsRow v p k = RowOf (head_at list k) (record_at p k) (record_at v k)
 
 is_row : IsRow row part 0 × IsRow row part 1
-unfolding transform_value head transform_of value content transformedRow result_type number_partition bytes_partition partition transform_number transform_bytes in_type
+unfolding transform_value head transform_of value content transformed_row result_type number_partition bytes_partition partition transform_number transform_bytes in_type
     truncated floor_mod first_code_points code_points utf8 is_code_point
 is_row = (refl, refl)
 
@@ -171,7 +171,7 @@ unfolding cells_of columns column fields head transform_of value compare_bytes r
 blank_cells_lem = (refl, refl)
 
 blank_is_row : IsRow blank blank 0 × IsRow blank blank 1
-unfolding transform_value head transform_of value transformedRow result_type number_partition bytes_partition partition
+unfolding transform_value head transform_of value transformed_row result_type number_partition bytes_partition partition
 blank_is_row = (refl, refl)
 
 abbrev others : List ℕ
@@ -207,7 +207,7 @@ abbrev is_ab12 : Leaf
 is_ab12 = record { place = 1; head = head_of_s; operator = eq; content = ascii "ab12" }
 
 abbrev below5 : Leaf
-below5 = record { place = 0; head = head_of_a; operator = lessThan; content = int (pos 5) }
+below5 = record { place = 0; head = head_of_a; operator = less_than; content = int (pos 5) }
 
 ab12_texts : (filter_in declared (ascii "s = 'ab12'") ≡ ok (leaf is_ab12)) × (filter_in declared (ascii "not s = 'ab12'") ≡ ok (opposite (leaf is_ab12)))
 unfolding filter_in symbols disjunction conjunction single in_type compare_bytes utf8 code_points is_code_point

@@ -30,9 +30,9 @@ use Rattle.filterdemand.proofs.JoinedLaws.{EveryLeaf}
 -- ---- filters: a leaf of what is derived is one of the symbols
 abbrev pub OfSymbol : {L : Type 0} → (L → Type 0) → Symbol L → Type 0
 OfSymbol g (grammar.leaf_of l) = g l
-OfSymbol g grammar.andWord = Unit {0}
-OfSymbol g grammar.orWord = Unit {0}
-OfSymbol g grammar.notWord = Unit {0}
+OfSymbol g grammar.and_word = Unit {0}
+OfSymbol g grammar.or_word = Unit {0}
+OfSymbol g grammar.not_word = Unit {0}
 OfSymbol g grammar.opening = Unit {0}
 OfSymbol g grammar.closing = Unit {0}
 OfSymbol g grammar.unreadable = Unit {0}
@@ -83,7 +83,7 @@ module _ (cs : List Column) (g : Leaf → Type 0) (fitted : (name : List ℕ) (o
 
   -- one of the three words, or a leaf
   of_word : (is_and is_or is_not : Bool) (s : List ℕ) (r : Read) → OfRead r
-      → OfRead (cond is_and (read grammar.andWord s) (cond is_or (read grammar.orWord s) (cond is_not (read grammar.notWord s) r)))
+      → OfRead (cond is_and (read grammar.and_word s) (cond is_or (read grammar.or_word s) (cond is_not (read grammar.not_word s) r)))
   of_word true is_or is_not s r h = tt
   of_word false true is_not s r h = tt
   of_word false false true s r h = tt

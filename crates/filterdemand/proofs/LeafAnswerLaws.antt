@@ -27,7 +27,7 @@ use Rattle.sheet.specs.laws.RefusalLaws.{Only}
 use Rattle.sheet.specs.Records.{value}
 use Rattle.sheet.specs.Sheets.{head}
 use Rattle.sheet.specs.Values.{read_number, read_bytes, read_row, by_layout}
-use Rattle.answers.specs.Answers.{projected, projectedLeaf, transformed, transformedRow}
+use Rattle.answers.specs.Answers.{projected, projected_leaf, transformed, transformed_row}
 use Rattle.answers.specs.Kinds.{Kind, numbers, byte_strings}
 use Rattle.api.specs.Demand3.{type_in, transform_in, width_in, RowOf}
 use Rattle.api.specs.OlderDemand.{Filed}
@@ -52,8 +52,8 @@ pub record Known (column : PrimitiveType) (transform : Transform) : Type 0 where
   pub is_known : known transform ≡ true
 
 module _ (column : PrimitiveType) (transform : Transform) where
-  row_known : (row : Row (List ℕ)) (p : List ℕ) → transformedRow column transform row ≡ ok p → Known column transform
-  unfolding transformedRow
+  row_known : (row : Row (List ℕ)) (p : List ℕ) → transformed_row column transform row ≡ ok p → Known column transform
+  unfolding transformed_row
   row_known row p e = go (layout column) e
     where
       go : (l : Layout)
@@ -154,8 +154,8 @@ module _ (l : Leaf) (fits : FitsIn l.head.column l.content) where
         (subst (λ t. value (layout (type_or column t)) p ≡ ok raw) result part_is)
         (subst (λ t. read_row (read_bytes (type_or column t)) raw ≡ ok read) result read_is))
 
-    pub leaf_returned : part_answer question others l ≡ by_returned question (projectedLeaf question column transform (predicate_in l)) p
-    unfolding part_answer projectedLeaf
+    pub leaf_returned : part_answer question others l ≡ by_returned question (projected_leaf question column transform (predicate_in l)) p
+    unfolding part_answer projected_leaf
     leaf_returned = go (layout column) refl
       where
         go : (lay : Layout) → layout column ≡ lay

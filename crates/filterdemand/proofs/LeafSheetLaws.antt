@@ -31,7 +31,7 @@ use Rattle.sheet.specs.Sheets.{chain, Head, head, fields, sheet}
 use Rattle.write.specs.Written.{literal_record}
 use Rattle.write.specs.laws.RoundTripLaws.{length_literal, content_back}
 use Rattle.api.specs.Requests.{sheet_of}
-use Rattle.demand.proofs.ReadBackLaws.{sheet_of as readSheet}
+use Rattle.demand.proofs.ReadBackLaws.{sheet_of as read_sheet}
 
 -- ---- the numbers of types, transforms and operators are small
 type_small : (t : PrimitiveType) → type_number t < 256
@@ -47,14 +47,14 @@ type_small String = omega arith
 type_small Binary = omega arith
 
 operator_small : (o : operators.Binary) → operator_number (operator_of (one o)) < 65536
-operator_small operators.lessThan = omega arith
-operator_small operators.lessThanOrEq = omega arith
-operator_small operators.greaterThan = omega arith
-operator_small operators.greaterThanOrEq = omega arith
+operator_small operators.less_than = omega arith
+operator_small operators.less_than_or_eq = omega arith
+operator_small operators.greater_than = omega arith
+operator_small operators.greater_than_or_eq = omega arith
 operator_small operators.eq = omega arith
-operator_small operators.notEq = omega arith
+operator_small operators.not_eq = omega arith
 operator_small operators.starts_with = omega arith
-operator_small operators.notStartsWith = omega arith
+operator_small operators.not_starts_with = omega arith
 
 -- ---- the head
 
@@ -148,7 +148,7 @@ module _ (type transform width : ℕ) (h : Head) (e : head type transform width 
     on_chain = two_records s (omega (arith, size)) refl (ap next_in second)
 
     pub sheet_back : (most : ℕ) → 1 ≤ most
-        → sheet most s ≡ ok (readSheet h.column (held_transform h.transform) (test (binary o bs)))
+        → sheet most s ≡ ok (read_sheet h.column (held_transform h.transform) (test (binary o bs)))
     unfolding sheet fields
     sheet_back most room =
         let operator = operator_number (operator_of (one o)) in

@@ -16,7 +16,7 @@ use Rattle.transform.specs.Floor.{floor_mod}
 use Rattle.transform.specs.Truncate.{truncated}
 use Rattle.partition.specs.Partition.{transform_number}
 use Rattle.partition.specs.ResultType.{result_type}
-use Rattle.expr.specs.Operators.{lessThan, greaterThanOrEq}
+use Rattle.expr.specs.Operators.{less_than, greater_than_or_eq}
 use Rattle.projection.specs.Projection.{project_numbers}
 use Rattle.projection.specs.declared.question.Question.{Question}
 use Rattle.projection.specs.declared.question.Question.TheVariants.{Inclusive, Strict}
@@ -41,7 +41,7 @@ use Rattle.filterdemand.proofs.FilterWitnesses.{entry, int, list, row, part, hea
 
 -- ---- `not not (a < 300)` and `not a >= 300` are the leaf `a < 300`, of the list, the row and the partition values there
 abbrev below300 : Leaf
-below300 = record { place = 0; head = head_of_a; operator = lessThan; content = int (pos 300) }
+below300 = record { place = 0; head = head_of_a; operator = less_than; content = int (pos 300) }
 
 abbrev twice : List ℕ
 twice = ascii "not not (a < 300)"
@@ -53,7 +53,7 @@ are_leaf : IsOneLeaf part_cells twice below300 × IsOneLeaf part_cells turned_ba
 unfolding filter_in symbols disjunction conjunction single in_type compare_bytes
 are_leaf = (
   (opposite (opposite (bracket (leaf below300))), refl, refl),
-  (opposite (leaf (record { place = 0; head = head_of_a; operator = greaterThanOrEq; content = int (pos 300) })), refl, refl),
+  (opposite (leaf (record { place = 0; head = head_of_a; operator = greater_than_or_eq; content = int (pos 300) })), refl, refl),
 )
 
 pub one_leaf_row_asks : (c t v : List ℕ) × (cells : List Cell) × (l : Leaf) × (cells_of rows c v ≡ ok cells) × IsOneLeaf cells t l

@@ -1,7 +1,7 @@
 -- The grammar as a parser: the filter that begins a row of symbols, and the symbols after it; and what it finds. Assumes nothing.
 use Rattle.std.specs.Prelude.{ℕ, zero, suc, Bool, true, false, cond, List, [], ◌∷◌, ◌↔◌, ◌≡◌, refl, length}
 use Rattle.grammar.specs.Filters.{Filter, leaf, either, both, opposite, bracket}
-use Rattle.grammar.specs.Grammar.{Symbol, leaf_of, andWord, orWord, notWord, opening, closing, unreadable, Derives}
+use Rattle.grammar.specs.Grammar.{Symbol, leaf_of, and_word, or_word, not_word, opening, closing, unreadable, Derives}
 
 pub data Found (L : Type 0) : Type 0 where
   found : Filter L → List (Symbol L) → Found L
@@ -19,18 +19,18 @@ Parser L = List (Symbol L) → Found L
 module _ {L : Type 0} where
   abbrev pub is_and : Symbol L → Bool
   is_and (leaf_of l) = false
-  is_and andWord = true
-  is_and orWord = false
-  is_and notWord = false
+  is_and and_word = true
+  is_and or_word = false
+  is_and not_word = false
   is_and opening = false
   is_and closing = false
   is_and unreadable = false
 
   abbrev pub is_or : Symbol L → Bool
   is_or (leaf_of l) = false
-  is_or andWord = false
-  is_or orWord = true
-  is_or notWord = false
+  is_or and_word = false
+  is_or or_word = true
+  is_or not_word = false
   is_or opening = false
   is_or closing = false
   is_or unreadable = false
@@ -48,9 +48,9 @@ module _ {L : Type 0} (is_word : Symbol L → Bool) (join : Filter L → Filter 
 abbrev pub closed : {L : Type 0} → Filter L → Parser L
 closed f [] = nothing
 closed f (leaf_of l ∷ ts) = nothing
-closed f (andWord ∷ ts) = nothing
-closed f (orWord ∷ ts) = nothing
-closed f (notWord ∷ ts) = nothing
+closed f (and_word ∷ ts) = nothing
+closed f (or_word ∷ ts) = nothing
+closed f (not_word ∷ ts) = nothing
 closed f (opening ∷ ts) = nothing
 closed f (closing ∷ ts) = found (bracket f) ts
 closed f (unreadable ∷ ts) = nothing
@@ -59,9 +59,9 @@ closed f (unreadable ∷ ts) = nothing
 abbrev pub single_with : {L : Type 0} → Parser L → Parser L → Parser L
 single_with again inner [] = nothing
 single_with again inner (leaf_of l ∷ ts) = found (leaf l) ts
-single_with again inner (andWord ∷ ts) = nothing
-single_with again inner (orWord ∷ ts) = nothing
-single_with again inner (notWord ∷ ts) = again ts >>= λ f rest. found (opposite f) rest
+single_with again inner (and_word ∷ ts) = nothing
+single_with again inner (or_word ∷ ts) = nothing
+single_with again inner (not_word ∷ ts) = again ts >>= λ f rest. found (opposite f) rest
 single_with again inner (opening ∷ ts) = inner ts >>= closed
 single_with again inner (closing ∷ ts) = nothing
 single_with again inner (unreadable ∷ ts) = nothing
@@ -82,11 +82,11 @@ abbrev pub ParserMeans : Type 1
 ParserMeans = (L : Type 0) (s : List (Symbol L)) (f : Filter L) → (disjunction (suc (length s)) s ≡ found f []) ↔ Derives s f
 
 -- a or b and not c is a or (b and (not c)); 1, 2 and 3 stand for leaves
-not_and_or : disjunction {L = ℕ} 9 (leaf_of 1 ∷ orWord ∷ leaf_of 2 ∷ andWord ∷ notWord ∷ leaf_of 3 ∷ []) ≡ found (either (leaf 1) (both (leaf 2) (opposite (leaf 3)))) []
+not_and_or : disjunction {L = ℕ} 9 (leaf_of 1 ∷ or_word ∷ leaf_of 2 ∷ and_word ∷ not_word ∷ leaf_of 3 ∷ []) ≡ found (either (leaf 1) (both (leaf 2) (opposite (leaf 3)))) []
 unfolding disjunction conjunction single
 not_and_or = refl
 
 -- a or b or c is (a or b) or c
-from_the_left : disjunction {L = ℕ} 9 (leaf_of 1 ∷ orWord ∷ leaf_of 2 ∷ orWord ∷ leaf_of 3 ∷ []) ≡ found (either (either (leaf 1) (leaf 2)) (leaf 3)) []
+from_the_left : disjunction {L = ℕ} 9 (leaf_of 1 ∷ or_word ∷ leaf_of 2 ∷ or_word ∷ leaf_of 3 ∷ []) ≡ found (either (either (leaf 1) (leaf 2)) (leaf 3)) []
 unfolding disjunction conjunction single
 from_the_left = refl

@@ -150,9 +150,9 @@ module _ (cs : List Column) (s : List ℕ) (at : ℕ) (r : Token) (h : Reads s a
   -- ---- the first symbol of a text
   unless_so : {A B : Type 0} (y : Symbol Leaf) → (A → B) → Unless y A → Unless y B
   unless_so (grammar.leaf_of l) f a = f a
-  unless_so grammar.andWord f a = f a
-  unless_so grammar.orWord f a = f a
-  unless_so grammar.notWord f a = f a
+  unless_so grammar.and_word f a = f a
+  unless_so grammar.or_word f a = f a
+  unless_so grammar.not_word f a = f a
   unless_so grammar.opening f a = f a
   unless_so grammar.closing f a = f a
   unless_so grammar.unreadable f a = tt
@@ -214,12 +214,12 @@ module _ (cs : List Column) (s : List ℕ) (from to next : ℕ) (within : next �
   abbrev same : List ℕ → Bool
   same w = is_equal (compare_bytes name w)
 
-  pub and_word : same (ascii "and") ≡ true → FromWord cs s from to next (plain kind.And next)
-  and_word a = rw a (record { is = (refl, refl); forward = λ n. omega arith; within = within })
+  pub and_word_lem : same (ascii "and") ≡ true → FromWord cs s from to next (plain kind.And next)
+  and_word_lem a = rw a (record { is = (refl, refl); forward = λ n. omega arith; within = within })
 
   module _ (a : same (ascii "and") ≡ false) where
-    pub or_word : same (ascii "or") ≡ true → FromWord cs s from to next (plain kind.Or next)
-    or_word o = rw (a, o) (record { is = (refl, refl); forward = λ n. omega arith; within = within })
+    pub or_word_lem : same (ascii "or") ≡ true → FromWord cs s from to next (plain kind.Or next)
+    or_word_lem o = rw (a, o) (record { is = (refl, refl); forward = λ n. omega arith; within = within })
 
     module _ (o : same (ascii "or") ≡ false) where
       pub not_word : same (ascii "not") ≡ true → FromWord cs s from to next (plain kind.Not next)

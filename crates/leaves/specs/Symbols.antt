@@ -57,9 +57,9 @@ module _ (cs : List Column) where
 
   abbrev pub of_word : List ℕ → List ℕ → Read
   of_word w s =
-      cond (is_equal (compare_bytes w (ascii "and"))) (read grammar.andWord s)
-      (cond (is_equal (compare_bytes w (ascii "or"))) (read grammar.orWord s)
-      (cond (is_equal (compare_bytes w (ascii "not"))) (read grammar.notWord s)
+      cond (is_equal (compare_bytes w (ascii "and"))) (read grammar.and_word s)
+      (cond (is_equal (compare_bytes w (ascii "or"))) (read grammar.or_word s)
+      (cond (is_equal (compare_bytes w (ascii "not"))) (read grammar.not_word s)
       (leaf_after w s)))
 
   abbrev pub of_token : Token → List ℕ → Read

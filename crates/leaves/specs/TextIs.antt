@@ -26,9 +26,9 @@ joins w = is_equal (compare_bytes w (ascii "and")) || is_equal (compare_bytes w 
 
 pub data TextIs (cs : List Column) : List ℕ → List (Symbol Leaf) → Type 0 where
   no_symbol : {s : List ℕ} → every is_space s ≡ true → TextIs cs s []
-  and_word : {s rest : List ℕ} {ys : List (Symbol Leaf)} → Spaced s (tokens.word (ascii "and")) rest → TextIs cs rest ys → TextIs cs s (grammar.andWord ∷ ys)
-  or_word : {s rest : List ℕ} {ys : List (Symbol Leaf)} → Spaced s (tokens.word (ascii "or")) rest → TextIs cs rest ys → TextIs cs s (grammar.orWord ∷ ys)
-  not_word : {s rest : List ℕ} {ys : List (Symbol Leaf)} → Spaced s (tokens.word (ascii "not")) rest → TextIs cs rest ys → TextIs cs s (grammar.notWord ∷ ys)
+  and_word_lem : {s rest : List ℕ} {ys : List (Symbol Leaf)} → Spaced s (tokens.word (ascii "and")) rest → TextIs cs rest ys → TextIs cs s (grammar.and_word ∷ ys)
+  or_word_lem : {s rest : List ℕ} {ys : List (Symbol Leaf)} → Spaced s (tokens.word (ascii "or")) rest → TextIs cs rest ys → TextIs cs s (grammar.or_word ∷ ys)
+  not_word : {s rest : List ℕ} {ys : List (Symbol Leaf)} → Spaced s (tokens.word (ascii "not")) rest → TextIs cs rest ys → TextIs cs s (grammar.not_word ∷ ys)
   opening : {s rest : List ℕ} {ys : List (Symbol Leaf)} → Spaced s tokens.opening rest → TextIs cs rest ys → TextIs cs s (grammar.opening ∷ ys)
   closing : {s rest : List ℕ} {ys : List (Symbol Leaf)} → Spaced s tokens.closing rest → TextIs cs rest ys → TextIs cs s (grammar.closing ∷ ys)
   -- "A leaf is a column name, an operator .. and a literal"; the name is declared and the literal fits its column (`Fitting.leaf_of`)
@@ -42,9 +42,9 @@ pub data TextIs (cs : List Column) : List ℕ → List (Symbol Leaf) → Type 0 
 -- a symbol that stands for something
 abbrev pub is_read : Symbol Leaf → Bool
 is_read (grammar.leaf_of l) = true
-is_read grammar.andWord = true
-is_read grammar.orWord = true
-is_read grammar.notWord = true
+is_read grammar.and_word = true
+is_read grammar.or_word = true
+is_read grammar.not_word = true
 is_read grammar.opening = true
 is_read grammar.closing = true
 is_read grammar.unreadable = false

@@ -146,18 +146,18 @@ negative (negsuc n) h = (n, refl)
 -- a number from 0 on stays as it is
 kept : (a : Operator) (t : ℤ) → pos 0 ≤ℤ t → one_test a t ≡ mapped raise (one_test a t)
 kept (operators.none o) t h = refl
-kept (operators.one operators.lessThan) t h = refl
-kept (operators.one operators.lessThanOrEq) (pos n) h = refl
-kept (operators.one operators.lessThanOrEq) (negsuc n) h = absurd h.le
-kept (operators.one operators.greaterThan) (pos n) h = refl
-kept (operators.one operators.greaterThan) (negsuc n) h = absurd h.le
-kept (operators.one operators.greaterThanOrEq) t h = refl
+kept (operators.one operators.less_than) t h = refl
+kept (operators.one operators.less_than_or_eq) (pos n) h = refl
+kept (operators.one operators.less_than_or_eq) (negsuc n) h = absurd h.le
+kept (operators.one operators.greater_than) (pos n) h = refl
+kept (operators.one operators.greater_than) (negsuc n) h = absurd h.le
+kept (operators.one operators.greater_than_or_eq) t h = refl
 kept (operators.one operators.eq) (pos n) h = refl
 kept (operators.one operators.eq) (negsuc n) h = absurd h.le
-kept (operators.one operators.notEq) (pos n) h = refl
-kept (operators.one operators.notEq) (negsuc n) h = absurd h.le
+kept (operators.one operators.not_eq) (pos n) h = refl
+kept (operators.one operators.not_eq) (negsuc n) h = absurd h.le
 kept (operators.one operators.starts_with) t h = refl
-kept (operators.one operators.notStartsWith) t h = refl
+kept (operators.one operators.not_starts_with) t h = refl
 kept (operators.many o) t h = refl
 
 module _ (o : PredicateOperator) (t : ℤ) (f : SFits w64 t) where
@@ -166,7 +166,7 @@ module _ (o : PredicateOperator) (t : ℤ) (f : SFits w64 t) where
   lifted_most is h g = rw (back f, back g, is, +ℤ_one t, (negative t h).1)
 
   pub lifted_equal : o ≡ Eq → t <ℤ pos 0
-      → ok (some (set operators.isIn (seen t ∷ suc_ℤ (seen t) ∷ []))) ≡ ok (mapped raise (one_test (by_arity o) t))
+      → ok (some (set operators.is_in (seen t ∷ suc_ℤ (seen t) ∷ []))) ≡ ok (mapped raise (one_test (by_arity o) t))
   lifted_equal is h = rw (back f, is, (negative t h).1)
 
   pub raised_greater : o ≡ GreaterThan → t <ℤ pos 0 → SFits w64 (t +ℤ pos 1)
@@ -174,7 +174,7 @@ module _ (o : PredicateOperator) (t : ℤ) (f : SFits w64 t) where
   raised_greater is h g = rw (back f, back g, is, +ℤ_one t, (negative t h).1)
 
   pub raised_not_equal : o ≡ NotEq → t <ℤ pos 0
-      → ok (some (set operators.notIn (seen t ∷ suc_ℤ (seen t) ∷ []))) ≡ ok (mapped raise (one_test (by_arity o) t))
+      → ok (some (set operators.not_in (seen t ∷ suc_ℤ (seen t) ∷ []))) ≡ ok (mapped raise (one_test (by_arity o) t))
   raised_not_equal is h = rw (back f, is, (negative t h).1)
 
   pub lifted_other : OneOf (map position (but (LessThanOrEq ∷ Eq ∷ GreaterThan ∷ NotEq ∷ []))) (position o)
@@ -198,26 +198,26 @@ module _ (column : PrimitiveType) where
 
   inclusive_one : (a : Operator) (l : ℤ) → in_type column l ≡ true → OneAt column (inclusive_boundary column a l)
   inclusive_one (operators.none o) l h = tt
-  inclusive_one (operators.one operators.lessThan) l h = neighbour_one LessThanOrEq (pred_ℤ l) refl
-  inclusive_one (operators.one operators.lessThanOrEq) l h = (refl, h)
-  inclusive_one (operators.one operators.greaterThan) l h = neighbour_one GreaterThanOrEq (suc_ℤ l) refl
-  inclusive_one (operators.one operators.greaterThanOrEq) l h = (refl, h)
+  inclusive_one (operators.one operators.less_than) l h = neighbour_one LessThanOrEq (pred_ℤ l) refl
+  inclusive_one (operators.one operators.less_than_or_eq) l h = (refl, h)
+  inclusive_one (operators.one operators.greater_than) l h = neighbour_one GreaterThanOrEq (suc_ℤ l) refl
+  inclusive_one (operators.one operators.greater_than_or_eq) l h = (refl, h)
   inclusive_one (operators.one operators.eq) l h = (refl, h)
-  inclusive_one (operators.one operators.notEq) l h = tt
+  inclusive_one (operators.one operators.not_eq) l h = tt
   inclusive_one (operators.one operators.starts_with) l h = (refl, h)
-  inclusive_one (operators.one operators.notStartsWith) l h = (refl, h)
+  inclusive_one (operators.one operators.not_starts_with) l h = (refl, h)
   inclusive_one (operators.many o) l h = tt
 
   strict_one : (a : Operator) (l : ℤ) → in_type column l ≡ true → OneAt column (strict_boundary column a l)
   strict_one (operators.none o) l h = tt
-  strict_one (operators.one operators.lessThan) l h = (refl, h)
-  strict_one (operators.one operators.lessThanOrEq) l h = neighbour_one LessThan (suc_ℤ l) refl
-  strict_one (operators.one operators.greaterThan) l h = (refl, h)
-  strict_one (operators.one operators.greaterThanOrEq) l h = neighbour_one GreaterThan (pred_ℤ l) refl
+  strict_one (operators.one operators.less_than) l h = (refl, h)
+  strict_one (operators.one operators.less_than_or_eq) l h = neighbour_one LessThan (suc_ℤ l) refl
+  strict_one (operators.one operators.greater_than) l h = (refl, h)
+  strict_one (operators.one operators.greater_than_or_eq) l h = neighbour_one GreaterThan (pred_ℤ l) refl
   strict_one (operators.one operators.eq) l h = tt
-  strict_one (operators.one operators.notEq) l h = (refl, h)
+  strict_one (operators.one operators.not_eq) l h = (refl, h)
   strict_one (operators.one operators.starts_with) l h = tt
-  strict_one (operators.one operators.notStartsWith) l h = tt
+  strict_one (operators.one operators.not_starts_with) l h = tt
   strict_one (operators.many o) l h = tt
 
   module _ (a : Operator) (l : ℤ) (f : SFits w64 l) {b : Boundary} (inside : in_type column l ≡ true) where

@@ -10,7 +10,7 @@ use Rattle.values.specs.laws.TestLaws.{clash}
 use Rattle.values.proofs.Arms.{position, but, agree}
 use Rattle.meets.specs.declared.held.Held.{Held}
 use Rattle.columns.specs.Columns.{Column}
-use Rattle.grammar.specs.Grammar.{Symbol, leaf_of, andWord, orWord, notWord, opening, closing, unreadable}
+use Rattle.grammar.specs.Grammar.{Symbol, leaf_of, and_word, or_word, not_word, opening, closing, unreadable}
 use Rattle.grammar.specs.Parser.{is_and, is_or}
 use Rattle.grammar.specs.laws.ChainLaws.{begins}
 use Rattle.leaves.specs.Fitting.{Leaf}
@@ -61,9 +61,9 @@ not_end k m = agree enum tt (is_kind kind.End) (λ other. false) (but enum tt (k
 abbrev kind_of : List (Symbol Leaf) → SymbolKind
 kind_of [] = kind.End
 kind_of (leaf_of l ∷ ts) = kind.Leaf
-kind_of (andWord ∷ ts) = kind.And
-kind_of (orWord ∷ ts) = kind.Or
-kind_of (notWord ∷ ts) = kind.Not
+kind_of (and_word ∷ ts) = kind.And
+kind_of (or_word ∷ ts) = kind.Or
+kind_of (not_word ∷ ts) = kind.Not
 kind_of (opening ∷ ts) = kind.Opening
 kind_of (closing ∷ ts) = kind.Closing
 kind_of (unreadable ∷ ts) = kind.Unreadable
@@ -71,9 +71,9 @@ kind_of (unreadable ∷ ts) = kind.Unreadable
 begins_and : (ts : List (Symbol Leaf)) → begins is_and ts ≡ is_kind kind.And (kind_of ts)
 begins_and [] = refl
 begins_and (leaf_of l ∷ ts) = refl
-begins_and (andWord ∷ ts) = refl
-begins_and (orWord ∷ ts) = refl
-begins_and (notWord ∷ ts) = refl
+begins_and (and_word ∷ ts) = refl
+begins_and (or_word ∷ ts) = refl
+begins_and (not_word ∷ ts) = refl
 begins_and (opening ∷ ts) = refl
 begins_and (closing ∷ ts) = refl
 begins_and (unreadable ∷ ts) = refl
@@ -81,9 +81,9 @@ begins_and (unreadable ∷ ts) = refl
 begins_or : (ts : List (Symbol Leaf)) → begins is_or ts ≡ is_kind kind.Or (kind_of ts)
 begins_or [] = refl
 begins_or (leaf_of l ∷ ts) = refl
-begins_or (andWord ∷ ts) = refl
-begins_or (orWord ∷ ts) = refl
-begins_or (notWord ∷ ts) = refl
+begins_or (and_word ∷ ts) = refl
+begins_or (or_word ∷ ts) = refl
+begins_or (not_word ∷ ts) = refl
 begins_or (opening ∷ ts) = refl
 begins_or (closing ∷ ts) = refl
 begins_or (unreadable ∷ ts) = refl
@@ -91,9 +91,9 @@ begins_or (unreadable ∷ ts) = refl
 begins_closing : (ts : List (Symbol Leaf)) → is_closing ts ≡ is_kind kind.Closing (kind_of ts)
 begins_closing [] = refl
 begins_closing (leaf_of l ∷ ts) = refl
-begins_closing (andWord ∷ ts) = refl
-begins_closing (orWord ∷ ts) = refl
-begins_closing (notWord ∷ ts) = refl
+begins_closing (and_word ∷ ts) = refl
+begins_closing (or_word ∷ ts) = refl
+begins_closing (not_word ∷ ts) = refl
 begins_closing (opening ∷ ts) = refl
 begins_closing (closing ∷ ts) = refl
 begins_closing (unreadable ∷ ts) = refl
@@ -105,9 +105,9 @@ is_empty (t ∷ ts) = false
 begins_end : (ts : List (Symbol Leaf)) → is_empty ts ≡ is_kind kind.End (kind_of ts)
 begins_end [] = refl
 begins_end (leaf_of l ∷ ts) = refl
-begins_end (andWord ∷ ts) = refl
-begins_end (orWord ∷ ts) = refl
-begins_end (notWord ∷ ts) = refl
+begins_end (and_word ∷ ts) = refl
+begins_end (or_word ∷ ts) = refl
+begins_end (not_word ∷ ts) = refl
 begins_end (opening ∷ ts) = refl
 begins_end (closing ∷ ts) = refl
 begins_end (unreadable ∷ ts) = refl
@@ -128,9 +128,9 @@ no_filter_kind k m = agree enum tt opens_filter (λ other. false) (but enum tt (
 begins_filter_lem : (ts : List (Symbol Leaf)) → begins_filter ts ≡ opens_filter (kind_of ts)
 begins_filter_lem [] = refl
 begins_filter_lem (leaf_of l ∷ ts) = refl
-begins_filter_lem (andWord ∷ ts) = refl
-begins_filter_lem (orWord ∷ ts) = refl
-begins_filter_lem (notWord ∷ ts) = refl
+begins_filter_lem (and_word ∷ ts) = refl
+begins_filter_lem (or_word ∷ ts) = refl
+begins_filter_lem (not_word ∷ ts) = refl
 begins_filter_lem (opening ∷ ts) = refl
 begins_filter_lem (closing ∷ ts) = refl
 begins_filter_lem (unreadable ∷ ts) = refl
@@ -143,9 +143,9 @@ module _ {cs : List Column} {s : List ℕ} {next : ℕ} {ahead : SymbolKind} {pa
   first_kind : (ts : List (Symbol Leaf)) → Begins cs s h.symbol ts → kind_of ts ≡ h.symbol.kind
   first_kind [] b = sym b
   first_kind (leaf_of l ∷ ts) b = sym b.0.0
-  first_kind (andWord ∷ ts) b = sym b.0
-  first_kind (orWord ∷ ts) b = sym b.0
-  first_kind (notWord ∷ ts) b = sym b.0
+  first_kind (and_word ∷ ts) b = sym b.0
+  first_kind (or_word ∷ ts) b = sym b.0
+  first_kind (not_word ∷ ts) b = sym b.0
   first_kind (opening ∷ ts) b = sym b.0
   first_kind (closing ∷ ts) b = sym b.0
   first_kind (unreadable ∷ ts) b = sym b.0
@@ -179,10 +179,10 @@ module _ {cs : List Column} {s : List ℕ} {next : ℕ} {ahead : SymbolKind} {pa
   pub seen_opens : (k : SymbolKind) → ahead ≡ k → Opens cs s h.symbol k left
   seen_opens k e = first_of_kind cs s h.symbol next h.is k (sym h.of_kind ∙ e)
 
-  pub seen_or : ahead ≡ kind.Or → left ≡ orWord ∷ symbols cs (drop past s)
+  pub seen_or : ahead ≡ kind.Or → left ≡ or_word ∷ symbols cs (drop past s)
   seen_or e = rw h.to (seen_opens kind.Or e)
 
-  pub seen_and : ahead ≡ kind.And → left ≡ andWord ∷ symbols cs (drop past s)
+  pub seen_and : ahead ≡ kind.And → left ≡ and_word ∷ symbols cs (drop past s)
   seen_and e = rw h.to (seen_opens kind.And e)
 
   pub seen_closing : ahead ≡ kind.Closing → left ≡ closing ∷ symbols cs (drop past s)

@@ -7,7 +7,7 @@ use mathlib.Core.Path.{◌≡◌, refl, sym, ap, subst, ◌∙◌}
 use lib.ListN.{length}
 use Rattle.values.specs.laws.TestLaws.{clash}
 use Rattle.grammar.specs.Filters.{Filter, either, both, leaves, depth, joined, answered}
-use Rattle.grammar.specs.Grammar.{Symbol, andWord, orWord}
+use Rattle.grammar.specs.Grammar.{Symbol, and_word, or_word}
 use Rattle.grammar.specs.Parser.{Parser, is_and, is_or, chain, single, conjunction}
 use Rattle.grammar.specs.laws.ChainLaws.{begins}
 use Rattle.grammar.specs.laws.FilterLaws.{read, join_as, answered_either, answered_both}
@@ -56,8 +56,8 @@ module _ (a : Asked) (c v s : List ℕ) where
     pub onward : (next : ℕ) (ahead : SymbolKind) (past : ℕ) → Seen (columns_in c) s next ahead past → ahead ≡ own
         → (next < past) × (after a c v s next ≡ symbol ∷ after a c v s past)
 
-  abbrev pub or_word : (negate : Bool) → Word negate
-  or_word negate = record {
+  abbrev pub or_word_lem : (negate : Bool) → Word negate
+  or_word_lem negate = record {
     is_word = is_or;
     join = either;
     all = negate;
@@ -65,7 +65,7 @@ module _ (a : Asked) (c v s : List ℕ) where
     folds = answered_either turn (ask a c v s) negate;
     deepens = λ f g. refl;
     adds = λ f g. refl;
-    symbol = orWord;
+    symbol = or_word;
     is = refl;
     own = kind.Or;
     readable = refl;
@@ -73,8 +73,8 @@ module _ (a : Asked) (c v s : List ℕ) where
     onward = λ next ahead past h e. (seen_forward h kind.Or e refl, seen_or h e);
   }
 
-  abbrev pub and_word : (negate : Bool) → Word negate
-  and_word negate = record {
+  abbrev pub and_word_lem : (negate : Bool) → Word negate
+  and_word_lem negate = record {
     is_word = is_and;
     join = both;
     all = not negate;
@@ -82,7 +82,7 @@ module _ (a : Asked) (c v s : List ℕ) where
     folds = answered_both turn (ask a c v s) negate;
     deepens = λ f g. refl;
     adds = λ f g. refl;
-    symbol = andWord;
+    symbol = and_word;
     is = refl;
     own = kind.And;
     readable = refl;

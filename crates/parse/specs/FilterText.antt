@@ -9,7 +9,7 @@ use Rattle.values.specs.Words.{le_bytes}
 use Rattle.values.specs.declared.datatypes.PrimitiveType.TheVariants.{Int, String}
 use Rattle.values.specs.declared.error.ErrorKind.TheVariants.{OutsideGrammar, TooLarge}
 use Rattle.values.specs.declared.transform.Transform.TheVariants.{Truncate}
-use Rattle.expr.specs.Operators.{Binary, lessThan, eq, starts_with, opposite_binary}
+use Rattle.expr.specs.Operators.{Binary, less_than, eq, starts_with, opposite_binary}
 use Rattle.sheet.specs.Sheets.{Head}
 use Rattle.columns.specs.Columns.{Column}
 use Rattle.grammar.specs.Filters.{Filter, leaf, either, both, opposite, bracket, leaves, depth}
@@ -63,7 +63,7 @@ the_example : filter_in (record { name = ascii "lot"; head = lot_head } ∷ reco
     (ascii "lot startswith 'ab' and not (grams < 300 or grams = 500)")
     ≡ ok (both
     (leaf (record { place = 0; head = lot_head; operator = starts_with; content = ascii "ab" }))
-    (opposite (bracket (either (leaf (grams_leaf lessThan 300)) (leaf (grams_leaf eq 500))))))
+    (opposite (bracket (either (leaf (grams_leaf less_than 300)) (leaf (grams_leaf eq 500))))))
 unfolding filter_in symbols disjunction conjunction single in_type compare_bytes utf8 code_points is_code_point
 the_example = refl
 

@@ -5,7 +5,7 @@ use Rattle.values.specs.Outcomes.{Res, ok}
 use Rattle.values.specs.Types.{same_type}
 use Rattle.values.specs.declared.datatypes.PrimitiveType.{PrimitiveType}
 use Rattle.values.specs.declared.datatypes.PrimitiveType.TheVariants.{String}
-use Rattle.expr.specs.Operators.{lessThan, lessThanOrEq, greaterThan, greaterThanOrEq, eq, notEq, starts_with, notStartsWith, isIn, notIn}
+use Rattle.expr.specs.Operators.{less_than, less_than_or_eq, greater_than, greater_than_or_eq, eq, not_eq, starts_with, not_starts_with, is_in, not_in}
 use Rattle.expr.specs.Predicates.{Test, binary, set}
 use Rattle.projection.specs.Steps.{Projected, some, none, with_literal, with_each}
 
@@ -30,42 +30,42 @@ module _ (T : List ℕ → Res (List ℕ)) (count : List ℕ → ℕ) (w : ℕ) 
 
   -- 01: "NotStartsWith: n = w gives NotEq L; n < w NotStartsWith L; n > w none inclusive"
   abbrev pub string_not_starts : List ℕ → Step
-  string_not_starts l = by_length (count l) w (some (binary notEq l)) (some (binary notStartsWith l)) (ok none)
+  string_not_starts l = by_length (count l) w (some (binary not_eq l)) (some (binary not_starts_with l)) (ok none)
 
   -- 02, #102, of a Binary: "inclusive NotStartsWith does so up to the width and has no predicate for a longer literal"
   abbrev pub binary_not_starts : List ℕ → Step
-  binary_not_starts l = cond (leb (count l) w) (with_literal notStartsWith (T l)) (ok none)
+  binary_not_starts l = cond (leb (count l) w) (with_literal not_starts_with (T l)) (ok none)
 
 -- ---- inclusive. 01: "inclusive < and ≤ give ≤ T(L); > and ≥ give ≥ T(L)"; "Eq, NotEq, In, NotIn as in the table"; of a Binary, 02: "The rest goes as for strings,
 -- counting bytes"
 module _ (column : PrimitiveType) (T : List ℕ → Res (List ℕ)) (count : List ℕ → ℕ) (w : ℕ) where
   abbrev pub inclusive_bytes : Test (List ℕ) → Step
-  inclusive_bytes (binary lessThan l) = with_literal lessThanOrEq (T l)
-  inclusive_bytes (binary lessThanOrEq l) = with_literal lessThanOrEq (T l)
-  inclusive_bytes (binary greaterThan l) = with_literal greaterThanOrEq (T l)
-  inclusive_bytes (binary greaterThanOrEq l) = with_literal greaterThanOrEq (T l)
+  inclusive_bytes (binary less_than l) = with_literal less_than_or_eq (T l)
+  inclusive_bytes (binary less_than_or_eq l) = with_literal less_than_or_eq (T l)
+  inclusive_bytes (binary greater_than l) = with_literal greater_than_or_eq (T l)
+  inclusive_bytes (binary greater_than_or_eq l) = with_literal greater_than_or_eq (T l)
   inclusive_bytes (binary eq l) = with_literal eq (T l)
-  inclusive_bytes (binary notEq l) = ok none
+  inclusive_bytes (binary not_eq l) = ok none
   inclusive_bytes (binary starts_with l) = cond (same_type column String) (string_starts T count w l) (binary_starts T l)
-  inclusive_bytes (binary notStartsWith l) = cond (same_type column String) (string_not_starts T count w l) (binary_not_starts T count w l)
-  inclusive_bytes (set isIn ls) = with_each compare_bytes isIn T ls
-  inclusive_bytes (set notIn ls) = ok none
+  inclusive_bytes (binary not_starts_with l) = cond (same_type column String) (string_not_starts T count w l) (binary_not_starts T count w l)
+  inclusive_bytes (set is_in ls) = with_each compare_bytes is_in T ls
+  inclusive_bytes (set not_in ls) = ok none
 
 -- ---- strict, of Strings and of Binaries. 01: "strict gives < and > with T(L)"; "StartsWith: n = w gives Eq L; n < w gives StartsWith L; n > w gives .. none strict";
 -- "NotStartsWith: n = w gives NotEq L; n < w NotStartsWith L; n > w .. NotStartsWith T(L) strict"; of a Binary, 01: "strict 207 and 208 as for strings, counting bytes",
 -- and 02's sentence above
 module _ (T : List ℕ → Res (List ℕ)) (count : List ℕ → ℕ) (w : ℕ) where
   abbrev pub strict_bytes : Test (List ℕ) → Step
-  strict_bytes (binary lessThan l) = with_literal lessThan (T l)
-  strict_bytes (binary lessThanOrEq l) = with_literal lessThan (T l)
-  strict_bytes (binary greaterThan l) = with_literal greaterThan (T l)
-  strict_bytes (binary greaterThanOrEq l) = with_literal greaterThan (T l)
+  strict_bytes (binary less_than l) = with_literal less_than (T l)
+  strict_bytes (binary less_than_or_eq l) = with_literal less_than (T l)
+  strict_bytes (binary greater_than l) = with_literal greater_than (T l)
+  strict_bytes (binary greater_than_or_eq l) = with_literal greater_than (T l)
   strict_bytes (binary eq l) = ok none
-  strict_bytes (binary notEq l) = with_literal notEq (T l)
+  strict_bytes (binary not_eq l) = with_literal not_eq (T l)
   strict_bytes (binary starts_with l) = by_length (count l) w (some (binary eq l)) (some (binary starts_with l)) (ok none)
-  strict_bytes (binary notStartsWith l) = by_length (count l) w (some (binary notEq l)) (some (binary notStartsWith l)) (with_literal notStartsWith (T l))
-  strict_bytes (set isIn ls) = ok none
-  strict_bytes (set notIn ls) = with_each compare_bytes notIn T ls
+  strict_bytes (binary not_starts_with l) = by_length (count l) w (some (binary not_eq l)) (some (binary not_starts_with l)) (with_literal not_starts_with (T l))
+  strict_bytes (set is_in ls) = ok none
+  strict_bytes (set not_in ls) = with_each compare_bytes not_in T ls
 
 -- a literal as long as the width is all of a String's prefix, while a Binary keeps the operator
 string_prefix : string_starts ok length 2 (97 ∷ 98 ∷ []) ≡ ok (some (binary eq (97 ∷ 98 ∷ [])))

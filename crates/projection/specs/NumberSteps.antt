@@ -7,7 +7,7 @@ use Rattle.values.specs.Types.{in_type}
 use Rattle.values.specs.declared.datatypes.PrimitiveType.{PrimitiveType}
 use Rattle.values.specs.declared.datatypes.PrimitiveType.TheVariants.{Int}
 use Rattle.values.specs.declared.error.ErrorKind.TheVariants.{Overflow}
-use Rattle.expr.specs.Operators.{lessThan, lessThanOrEq, greaterThan, greaterThanOrEq, eq, notEq, starts_with, notStartsWith, isIn, notIn}
+use Rattle.expr.specs.Operators.{less_than, less_than_or_eq, greater_than, greater_than_or_eq, eq, not_eq, starts_with, not_starts_with, is_in, not_in}
 use Rattle.expr.specs.Predicates.{Test, binary, set}
 use Rattle.projection.specs.Steps.{Projected, some, none, with_literal, with_each}
 
@@ -25,34 +25,34 @@ module _ (column : PrimitiveType) (T : ℤ → Res ℤ) where
 
   -- 01's table, its column Inclusive
   abbrev pub inclusive_number : Test ℤ → Res (Projected (Test ℤ))
-  inclusive_number (binary lessThan l) = with_literal lessThanOrEq (one_below l)
-  inclusive_number (binary lessThanOrEq l) = with_literal lessThanOrEq (T l)
-  inclusive_number (binary greaterThan l) = with_literal greaterThanOrEq (one_above l)
-  inclusive_number (binary greaterThanOrEq l) = with_literal greaterThanOrEq (T l)
+  inclusive_number (binary less_than l) = with_literal less_than_or_eq (one_below l)
+  inclusive_number (binary less_than_or_eq l) = with_literal less_than_or_eq (T l)
+  inclusive_number (binary greater_than l) = with_literal greater_than_or_eq (one_above l)
+  inclusive_number (binary greater_than_or_eq l) = with_literal greater_than_or_eq (T l)
   inclusive_number (binary eq l) = with_literal eq (T l)
-  inclusive_number (binary notEq l) = ok none
+  inclusive_number (binary not_eq l) = ok none
   inclusive_number (binary starts_with l) = with_literal starts_with (T l)
-  inclusive_number (binary notStartsWith l) = with_literal notStartsWith (T l)
-  inclusive_number (set isIn ls) = with_each compare_numbers isIn T ls
-  inclusive_number (set notIn ls) = ok none
+  inclusive_number (binary not_starts_with l) = with_literal not_starts_with (T l)
+  inclusive_number (set is_in ls) = with_each compare_numbers is_in T ls
+  inclusive_number (set not_in ls) = ok none
 
   -- 01's table, its column Strict
   abbrev pub strict_number : Test ℤ → Res (Projected (Test ℤ))
-  strict_number (binary lessThan l) = with_literal lessThan (T l)
-  strict_number (binary lessThanOrEq l) = with_literal lessThan (one_above l)
-  strict_number (binary greaterThan l) = with_literal greaterThan (T l)
-  strict_number (binary greaterThanOrEq l) = with_literal greaterThan (one_below l)
+  strict_number (binary less_than l) = with_literal less_than (T l)
+  strict_number (binary less_than_or_eq l) = with_literal less_than (one_above l)
+  strict_number (binary greater_than l) = with_literal greater_than (T l)
+  strict_number (binary greater_than_or_eq l) = with_literal greater_than (one_below l)
   strict_number (binary eq l) = ok none
-  strict_number (binary notEq l) = with_literal notEq (T l)
+  strict_number (binary not_eq l) = with_literal not_eq (T l)
   strict_number (binary starts_with l) = ok none
-  strict_number (binary notStartsWith l) = ok none
-  strict_number (set isIn ls) = ok none
-  strict_number (set notIn ls) = with_each compare_numbers notIn T ls
+  strict_number (binary not_starts_with l) = ok none
+  strict_number (set is_in ls) = ok none
+  strict_number (set not_in ls) = with_each compare_numbers not_in T ls
 
 -- with a transform that changes nothing: < 3 is ≤ 2, and stays < 3
-less_inclusive : inclusive_number Int ok (binary lessThan (pos 3)) ≡ ok (some (binary lessThanOrEq (pos 2)))
+less_inclusive : inclusive_number Int ok (binary less_than (pos 3)) ≡ ok (some (binary less_than_or_eq (pos 2)))
 unfolding in_type
 less_inclusive = refl
 
-less_strict : strict_number Int ok (binary lessThan (pos 3)) ≡ ok (some (binary lessThan (pos 3)))
+less_strict : strict_number Int ok (binary less_than (pos 3)) ≡ ok (some (binary less_than (pos 3)))
 less_strict = refl

@@ -108,12 +108,12 @@ module _ (column : PrimitiveType) (width : ℕ) (l : List ℕ) where
       go false e true f = up_to a (omega (arith, ltb-true (length_of column l) width f))
       go false e false f = refl
 
-  not_starts_kept : not_starts_leaf Inclusive column width (operators.one operators.notStartsWith) l
-      ≡ cond (leb (length_of column l) width) (truncated_leaf column width (operators.one operators.notStartsWith) l) (ok none)
+  not_starts_kept : not_starts_leaf Inclusive column width (operators.one operators.not_starts_with) l
+      ≡ cond (leb (length_of column l) width) (truncated_leaf column width (operators.one operators.not_starts_with) l) (ok none)
   not_starts_kept = go (eqb (length_of column l) width) refl (ltb (length_of column l) width) refl
     where
       a : Operator
-      a = operators.one operators.notStartsWith
+      a = operators.one operators.not_starts_with
 
       n : ℕ
       n = length_of column l
@@ -153,7 +153,7 @@ module _ (column : PrimitiveType) (width : ℕ) (o : PredicateOperator) (l : Lis
         → bytes_projected l p ≡ bytes_leaf Inclusive column (Truncate width) (by_arity o) l
     string_starts_lem is e = rw (is, string) (rw string at e)
 
-    pub string_not_starts_lem : o ≡ NotStartsWith → bytes_projected l p ≡ not_starts_leaf Inclusive column width (operators.one operators.notEq) l
+    pub string_not_starts_lem : o ≡ NotStartsWith → bytes_projected l p ≡ not_starts_leaf Inclusive column width (operators.one operators.not_eq) l
         → bytes_projected l p ≡ bytes_leaf Inclusive column (Truncate width) (by_arity o) l
     string_not_starts_lem is e = rw (is, string) (rw string at e)
 
@@ -162,7 +162,7 @@ module _ (column : PrimitiveType) (width : ℕ) (o : PredicateOperator) (l : Lis
         → bytes_projected l p ≡ bytes_leaf Inclusive column (Truncate width) (by_arity o) l
     other_starts is e = e ∙ starts_kept column width l ∙ rw (is, other)
 
-    pub other_not_starts : o ≡ NotStartsWith → bytes_projected l p ≡ not_starts_leaf Inclusive column width (operators.one operators.notStartsWith) l
+    pub other_not_starts : o ≡ NotStartsWith → bytes_projected l p ≡ not_starts_leaf Inclusive column width (operators.one operators.not_starts_with) l
         → bytes_projected l p ≡ bytes_leaf Inclusive column (Truncate width) (by_arity o) l
     other_not_starts is e = e ∙ not_starts_kept column width l ∙ rw (is, other)
 

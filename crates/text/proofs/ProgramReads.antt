@@ -10,7 +10,7 @@ use Rattle.values.specs.Outcomes.{Res, ok, err}
 use Rattle.projection.specs.Steps.{Projected, some, none}
 use Rattle.projection.specs.declared.question.Question.TheVariants.{Inclusive, Strict}
 use Rattle.write.specs.Written.{sheet_buffer}
-use Rattle.answers.specs.Answers.{answer_of, left_of, answerNumber, answerCount}
+use Rattle.answers.specs.Answers.{answer_of, left_of, answer_number, answer_count}
 use Rattle.answers.specs.declared.answer.Answer.{Answer}
 use Rattle.api.specs.Routines.{project_sheet, answered, left_in}
 use Rattle.values.specs.Characters.{ascii}
@@ -22,12 +22,12 @@ use Rattle.text.proofs.Writes.{Wrote, then, kept}
 -- ---- a projection's answer, read back from its buffer
 
 -- bytes that are written over a list and leave its length are not more than it has
-counted : (r : Res (Projected (List ℕ))) (before : List ℕ) → length (left_of before r) ≡ length before → answerCount (answer_of r) ≤ length before
+counted : (r : Res (Projected (List ℕ))) (before : List ℕ) → length (left_of before r) ≡ length before → answer_count (answer_of r) ≤ length before
 counted (ok (some q)) before same = omega (arith, same, length-append q (drop (0 + length q) before))
 counted (ok none) before same = omega arith
 counted (err e) before same = omega arith
 
-read_back : (r : Res (Projected (List ℕ))) (before : List ℕ) → take (answerCount (answer_of r)) (left_of before r) ≡ answer_in r
+read_back : (r : Res (Projected (List ℕ))) (before : List ℕ) → take (answer_count (answer_of r)) (left_of before r) ≡ answer_in r
 read_back (ok (some q)) before = take_at q (drop (0 + length q) before) (length q) refl
 read_back (ok none) before = refl
 read_back (err e) before = refl
@@ -46,14 +46,14 @@ module _ {r : Res (Projected (List ℕ))} {before after : List ℕ} {answer : An
   after_is : after ≡ left_of before r
   after_is = rw (le-ltb (length before) sheet_buffer t.room) at t.buffer
 
-  module _ {count : ℕ} (c : count ≡ answerCount answer) where
+  module _ {count : ℕ} (c : count ≡ answer_count answer) where
     pub count_fits : count ≤ length after
-    count_fits = omega (arith, c, ap answerCount answer_is, t.same, counted r before (ap length (sym after_is) ∙ t.same))
+    count_fits = omega (arith, c, ap answer_count answer_is, t.same, counted r before (ap length (sym after_is) ∙ t.same))
 
     pub count_taken : count ≡ length (take count after)
     count_taken = sym (length-take-le count after count_fits)
 
-    pub line_is : {number : ℕ} (word : List ℕ) → number ≡ answerNumber answer → answer_line word number (take count after) ≡ projection_line word r
+    pub line_is : {number : ℕ} (word : List ℕ) → number ≡ answer_number answer → answer_line word number (take count after) ≡ projection_line word r
     line_is word n = rw (n, c, answer_is, after_is, read_back r before)
 
 -- ---- both lines

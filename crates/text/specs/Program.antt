@@ -15,7 +15,7 @@ use Rattle.projection.specs.declared.question.Question.TheVariants.{Inclusive, S
 use Rattle.sheet.specs.Records.{content}
 use Rattle.sheet.specs.Sheets.{sheet, head, fields}
 use Rattle.write.specs.Written.{answer_sheet, sheet_buffer}
-use Rattle.answers.specs.Answers.{projectedLeaf, answer_of, answerNumber}
+use Rattle.answers.specs.Answers.{projected_leaf, answer_of, answer_number}
 use Rattle.api.specs.Requests.{sheet_of}
 use Rattle.api.specs.Routines.{project_sheet}
 use Rattle.values.specs.Characters.{ascii}
@@ -29,7 +29,7 @@ answer_in (err e) = []
 
 -- "question, answer number, then, after 0, operator and literals": the line of a question's word and of what its projection answers
 abbrev pub projection_line : List ℕ → Res (Projected (List ℕ)) → List ℕ
-projection_line word r = answer_line word (answerNumber (answer_of r)) (answer_in r)
+projection_line word r = answer_line word (answer_number (answer_of r)) (answer_in r)
 
 -- "reads one sheet .. and prints two lines"; 02, #108: "reads up to 8,320" bytes; over them is 3, as of any sheet to be projected (`over_the_longest`)
 unfoldable pub printed : List ℕ → List ℕ
@@ -42,6 +42,6 @@ output_size = 4 * sheet_buffer
 
 -- "For Int, Truncate 10, < 300"
 sample : printed (sheet_of 201 1 1 10 (signed_bytes 4 (pos 300) ∷ [])) ≡ ascii "inclusive 0 202 290\nstrict 0 201 300\n"
-unfolding printed answer_line digits project_sheet sheet fields head transform_of content projectedLeaf result_type project_numbers transform_number in_type
+unfolding printed answer_line digits project_sheet sheet fields head transform_of content projected_leaf result_type project_numbers transform_number in_type
     truncated floor_mod answer_sheet
 sample = refl

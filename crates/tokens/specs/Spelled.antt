@@ -4,7 +4,7 @@ use Rattle.std.specs.Prelude.{ℕ, Bool, true, false, List, [], ◌∷◌, ◌++
 use Prim.Native.Char.{code}
 use Rattle.values.specs.Characters.{is_letter, is_digit}
 use Rattle.values.specs.SomeEvery.{every}
-use Rattle.expr.specs.Operators.{lessThan, lessThanOrEq, greaterThan, greaterThanOrEq, eq, notEq}
+use Rattle.expr.specs.Operators.{less_than, less_than_or_eq, greater_than, greater_than_or_eq, eq, not_eq}
 use Rattle.tokens.specs.Tokens.{Token, word, sign, decimal, quoted, opening, closing, unreadable, taken, token, number_after, is_text}
 
 -- whether a text begins with a byte that passes a test
@@ -29,12 +29,12 @@ pub data Spelled : List ℕ → Token → List ℕ → Type 0 where
   opens : {rest : List ℕ} → Spelled (code "(" ∷ rest) opening rest
   closes : {rest : List ℕ} → Spelled (code ")" ∷ rest) closing rest
   -- "`<`, `<=`, `>`, `>=`, `=`, `!=`": the longest that fits
-  less_or_equal : {rest : List ℕ} → Spelled (code "<" ∷ code "=" ∷ rest) (sign lessThanOrEq) rest
-  less : {rest : List ℕ} → begins_with is_equals rest ≡ false → Spelled (code "<" ∷ rest) (sign lessThan) rest
-  greater_or_equal : {rest : List ℕ} → Spelled (code ">" ∷ code "=" ∷ rest) (sign greaterThanOrEq) rest
-  greater : {rest : List ℕ} → begins_with is_equals rest ≡ false → Spelled (code ">" ∷ rest) (sign greaterThan) rest
+  less_or_equal : {rest : List ℕ} → Spelled (code "<" ∷ code "=" ∷ rest) (sign less_than_or_eq) rest
+  less : {rest : List ℕ} → begins_with is_equals rest ≡ false → Spelled (code "<" ∷ rest) (sign less_than) rest
+  greater_or_equal : {rest : List ℕ} → Spelled (code ">" ∷ code "=" ∷ rest) (sign greater_than_or_eq) rest
+  greater : {rest : List ℕ} → begins_with is_equals rest ≡ false → Spelled (code ">" ∷ rest) (sign greater_than) rest
   equal : {rest : List ℕ} → Spelled (code "=" ∷ rest) (sign eq) rest
-  not_equal : {rest : List ℕ} → Spelled (code "!" ∷ code "=" ∷ rest) (sign notEq) rest
+  not_equal : {rest : List ℕ} → Spelled (code "!" ∷ code "=" ∷ rest) (sign not_eq) rest
 
 -- a token that stands for something
 abbrev pub is_spelled : Token → Bool

@@ -2,7 +2,7 @@
 use Rattle.std.specs.Prelude.{ℕ, ◌+◌, ◌-◌, ◌*◌, Bool, cond, not, List, [], ◌∷◌, ◌≡◌, refl, eqb, ℤ, pos, negsuc, neg_ℤ}
 use Prim.Native.Char.{code}
 use Rattle.values.specs.Characters.{ascii, is_letter, is_digit, leading, following}
-use Rattle.expr.specs.Operators.{Binary, lessThan, lessThanOrEq, greaterThan, greaterThanOrEq, eq, notEq}
+use Rattle.expr.specs.Operators.{Binary, less_than, less_than_or_eq, greater_than, greater_than_or_eq, eq, not_eq}
 
 -- `unreadable` stands for a text that begins with none of the others
 pub data Token : Type 0 where
@@ -64,17 +64,17 @@ token (b ∷ s) =
     (cond (eqb b (code "'")) (quoted_at s)
     (cond (eqb b (code "(")) (taken opening s)
     (cond (eqb b (code ")")) (taken closing s)
-    (cond (eqb b (code "<")) (longest (sign lessThanOrEq) (sign lessThan) s)
-    (cond (eqb b (code ">")) (longest (sign greaterThanOrEq) (sign greaterThan) s)
+    (cond (eqb b (code "<")) (longest (sign less_than_or_eq) (sign less_than) s)
+    (cond (eqb b (code ">")) (longest (sign greater_than_or_eq) (sign greater_than) s)
     (cond (eqb b (code "=")) (taken (sign eq) s)
-    (cond (eqb b (code "!")) (longest (sign notEq) unreadable s)
+    (cond (eqb b (code "!")) (longest (sign not_eq) unreadable s)
     (taken unreadable s))))))))))
 
 -- `not` and the letters after it are one word, and `<` is not `<=` where a space stands between
 one_word : token (ascii "nota<1") ≡ taken (word (ascii "nota")) (ascii "<1")
 one_word = refl
 
-apart : token (ascii "< =1") ≡ taken (sign lessThan) (ascii " =1")
+apart : token (ascii "< =1") ≡ taken (sign less_than) (ascii " =1")
 apart = refl
 
 -- leading zeros change nothing, and -0 is 0

@@ -1,7 +1,7 @@
 // The token that a text begins with.
 ghost use Rattle.std.specs.Prelude.{true, ◌≡◌, ◌+◌, ◌≤◌, ◌<◌, pos, length, drop, get_or};
 ghost use Rattle.values.specs.Characters.{is_letter, is_digit};
-ghost use Rattle.expr.specs.Operators.{notEq};
+ghost use Rattle.expr.specs.Operators.{not_eq};
 ghost use Rattle.tokens.specs.Tokens.{sign, unreadable, word_at, decimal_at, minus_at, quoted_at, longest, token};
 ghost use Rattle.tokens.specs.code.TokenAnswers.{plain, sign_of, decimal_of, Takes, Longest, Reads};
 
@@ -143,7 +143,7 @@ fn longest_at(s: &[u8], from: usize, with: PredicateOperator, without: Predicate
 // The sign that begins with the `!` at `from`: without `=` it is none.
 fn unequal_at(s: &[u8], from: usize) -> Token
     requires { from < length s.now }
-    ensures { Takes s.now from result (longest (sign notEq) unreadable (drop (from + 1) s.now)) }
+    ensures { Takes s.now from result (longest (sign not_eq) unreadable (drop (from + 1) s.now)) }
 {
     let next = from + 1;
     if byte(s, next) == b'=' {

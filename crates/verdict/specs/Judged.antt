@@ -9,7 +9,7 @@ use Rattle.values.specs.Words.{signed_bytes}
 use Rattle.values.specs.declared.datatypes.PrimitiveType.{PrimitiveType}
 use Rattle.values.specs.declared.datatypes.PrimitiveType.TheVariants.{Int, String, Binary}
 use Rattle.values.specs.declared.error.ErrorKind.TheVariants.{NotUtf8, WrongSummary}
-use Rattle.expr.specs.Operators.{notNull}
+use Rattle.expr.specs.Operators.{not_null}
 use Rattle.expr.specs.Predicates.{Predicate, unary}
 use Rattle.sheet.specs.Values.{read_bytes, each_literal, by_layout, map_literals, number_of}
 use Rattle.summary.specs.Summaries.{Ends, ◌to◌, Summary}
@@ -43,7 +43,7 @@ abbrev file_of : PrimitiveType → List ℕ → List ℕ → Summary
 file_of column low high = record { column = column; ends = low to high; has_missing = false }
 
 abbrev present : Predicate (List ℕ)
-present = unary notNull
+present = unary not_null
 
 -- an end is looked at by the summary's own type: one that is not UTF-8 is 4, and only then is its type 11
 by_its_own_type : (judged Int present (file_of String (0xFF ∷ []) (0xFF ∷ [])) ≡ err NotUtf8)

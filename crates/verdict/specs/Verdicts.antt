@@ -4,7 +4,7 @@ use Rattle.values.specs.SomeEvery.{some, every}
 use Rattle.values.specs.Order.{compare_numbers}
 use Rattle.values.specs.Outcomes.{Row, missing, present}
 use Rattle.expr.specs.Holds.{number_tests, holds}
-use Rattle.expr.specs.Operators.{is_null, lessThan, notEq, isIn}
+use Rattle.expr.specs.Operators.{is_null, less_than, not_eq, is_in}
 use Rattle.expr.specs.Predicates.{Predicate, unary, test, binary, set}
 use Rattle.summary.specs.Summaries.{Ends, none_present, ◌to◌}
 use Rattle.ends.specs.Between.{between}
@@ -42,15 +42,15 @@ abbrev few : Ends ℤ
 few = negsuc 1 to pos 1
 
 abbrev below : ℤ → Predicate ℤ
-below l = test (binary lessThan l)
+below l = test (binary less_than l)
 
 by_ends : (number_verdict (below (negsuc 1)) few false ≡ Skip) × (number_verdict (below (pos 0)) few false ≡ Read) × (number_verdict (below (pos 2)) few false ≡ Whole)
 unfolding number_verdict between compare_numbers
 by_ends = (refl, refl, refl)
 
 -- -2, -1, 0 and 1 are all the values; without -1 one of them is left out
-by_set : (number_verdict (test (set isIn (pos 1 ∷ negsuc 0 ∷ pos 0 ∷ negsuc 1 ∷ []))) few false ≡ Whole)
-    × (number_verdict (test (set isIn (pos 1 ∷ pos 0 ∷ negsuc 1 ∷ []))) few false ≡ Read)
+by_set : (number_verdict (test (set is_in (pos 1 ∷ negsuc 0 ∷ pos 0 ∷ negsuc 1 ∷ []))) few false ≡ Whole)
+    × (number_verdict (test (set is_in (pos 1 ∷ pos 0 ∷ negsuc 1 ∷ []))) few false ≡ Read)
 unfolding number_verdict between compare_numbers
 by_set = (refl, refl)
 
@@ -62,11 +62,11 @@ by_flag = (refl, refl, refl)
 
 -- but it meets NotEq (02, #106): by NotEq 2 these files are taken whole with their missing values; by NotEq 1 a file of 1 alone is skipped, and read if a missing
 -- value occurs
-by_flag_and_not_eq : (number_verdict (test (binary notEq (pos 2))) few true ≡ Whole) × (number_verdict (test (binary notEq (pos 2))) none_present true ≡ Whole)
-    × (number_verdict (test (binary notEq (pos 1))) (pos 1 to pos 1) true ≡ Read) × (number_verdict (test (binary notEq (pos 1))) (pos 1 to pos 1) false ≡ Skip)
+by_flag_and_not_eq : (number_verdict (test (binary not_eq (pos 2))) few true ≡ Whole) × (number_verdict (test (binary not_eq (pos 2))) none_present true ≡ Whole)
+    × (number_verdict (test (binary not_eq (pos 1))) (pos 1 to pos 1) true ≡ Read) × (number_verdict (test (binary not_eq (pos 1))) (pos 1 to pos 1) false ≡ Skip)
 unfolding number_verdict between compare_numbers
 by_flag_and_not_eq = (refl, refl, refl, refl)
 
-empty_file_lem : number_verdict (test (binary notEq (pos 0))) none_present false ≡ Skip
+empty_file_lem : number_verdict (test (binary not_eq (pos 0))) none_present false ≡ Skip
 unfolding number_verdict
 empty_file_lem = refl

@@ -2,7 +2,7 @@
 // every case.
 ghost use Rattle.std.specs.Prelude.{◌≡◌};
 ghost use Rattle.projection.specs.declared.question.Question.TheVariants.{Inclusive, Strict, Older};
-ghost use Rattle.answers.specs.Answers.{answerNumber, answerCount};
+ghost use Rattle.answers.specs.Answers.{answer_number, answer_count};
 ghost use Rattle.meets.specs.Tested.{held_as, held_number};
 ghost use Rattle.api.specs.HoldsTest.{holds_test};
 ghost use Rattle.api.specs.Routines.{project_answer, project_leaves, transform_answer, transform_leaves};
@@ -30,8 +30,8 @@ pub extern "C" fn weighpick_version() -> u32
 
 // Sets the count of an answer, and gives its number.
 fn told(answer: Answer, count: &mut u64) -> u32
-    ensures number { result ≡ answerNumber answer }
-    ensures written { count.new ≡ answerCount answer }
+    ensures number { result ≡ answer_number answer }
+    ensures written { count.new ≡ answer_count answer }
 {
     *count = answer.count() as u64;
     answer.number()
@@ -39,8 +39,8 @@ fn told(answer: Answer, count: &mut u64) -> u32
 
 #[unsafe(no_mangle)]
 pub extern "C" fn weighpick_project(sheet: &[u8], out: &mut [u8], count: &mut u64) -> u32
-    ensures number { result ≡ answerNumber (project_answer Inclusive sheet.now out.old) }
-    ensures written { count.new ≡ answerCount (project_answer Inclusive sheet.now out.old) }
+    ensures number { result ≡ answer_number (project_answer Inclusive sheet.now out.old) }
+    ensures written { count.new ≡ answer_count (project_answer Inclusive sheet.now out.old) }
     ensures buffer { out.new ≡ project_leaves Inclusive sheet.now out.old }
 {
     told(project(sheet, out), count)
@@ -48,8 +48,8 @@ pub extern "C" fn weighpick_project(sheet: &[u8], out: &mut [u8], count: &mut u6
 
 #[unsafe(no_mangle)]
 pub extern "C" fn weighpick_strict_project(sheet: &[u8], out: &mut [u8], count: &mut u64) -> u32
-    ensures number { result ≡ answerNumber (project_answer Strict sheet.now out.old) }
-    ensures written { count.new ≡ answerCount (project_answer Strict sheet.now out.old) }
+    ensures number { result ≡ answer_number (project_answer Strict sheet.now out.old) }
+    ensures written { count.new ≡ answer_count (project_answer Strict sheet.now out.old) }
     ensures buffer { out.new ≡ project_leaves Strict sheet.now out.old }
 {
     told(strict_project(sheet, out), count)
@@ -61,8 +61,8 @@ pub extern "C" fn weighpick_strict_project_older(
     out: &mut [u8],
     count: &mut u64,
 ) -> u32
-    ensures number { result ≡ answerNumber (project_answer Older sheet.now out.old) }
-    ensures written { count.new ≡ answerCount (project_answer Older sheet.now out.old) }
+    ensures number { result ≡ answer_number (project_answer Older sheet.now out.old) }
+    ensures written { count.new ≡ answer_count (project_answer Older sheet.now out.old) }
     ensures buffer { out.new ≡ project_leaves Older sheet.now out.old }
 {
     told(strict_project_older(sheet, out), count)
@@ -77,8 +77,8 @@ pub extern "C" fn weighpick_transform(
     out: &mut [u8],
     count: &mut u64,
 ) -> u32
-    ensures number { result ≡ answerNumber (transform_answer column_type transform width value.now out.old) }
-    ensures written { count.new ≡ answerCount (transform_answer column_type transform width value.now out.old) }
+    ensures number { result ≡ answer_number (transform_answer column_type transform width value.now out.old) }
+    ensures written { count.new ≡ answer_count (transform_answer column_type transform width value.now out.old) }
     ensures buffer { out.new ≡ transform_leaves column_type transform width value.now out.old }
 {
     told(
@@ -101,8 +101,8 @@ pub extern "C" fn weighpick_test_summary(
     out: &mut [u8],
     count: &mut u64,
 ) -> u32
-    ensures number { result ≡ answerNumber (test_answer sheet.now summary.now out.old) }
-    ensures written { count.new ≡ answerCount (test_answer sheet.now summary.now out.old) }
+    ensures number { result ≡ answer_number (test_answer sheet.now summary.now out.old) }
+    ensures written { count.new ≡ answer_count (test_answer sheet.now summary.now out.old) }
     ensures buffer { out.new ≡ test_leaves sheet.now summary.now out.old }
 {
     told(test_summary(sheet, summary, out), count)

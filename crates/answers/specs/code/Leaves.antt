@@ -9,7 +9,7 @@ use Rattle.values.specs.declared.datatypes.PrimitiveType.{PrimitiveType}
 use Rattle.values.specs.declared.transform.Transform.{Transform}
 use Rattle.values.specs.declared.transform.Transform.TheVariants.{Identity, Truncate, Year, Month, Day, Hour, Void, Unknown}
 use Rattle.partition.specs.ResultType.{result_type}
-use Rattle.expr.specs.Operators.{Operator, none, one, many, isIn, notIn, by_arity, project_limit}
+use Rattle.expr.specs.Operators.{Operator, none, one, many, is_in, not_in, by_arity, project_limit}
 use Rattle.expr.specs.code.OperatorAnswers.{takes_one, takes_many, takes, leaf_of}
 use Rattle.expr.specs.Predicates.{Test, Predicate, test}
 use Rattle.expr.specs.declared.operator.PredicateOperator.{PredicateOperator}
@@ -24,13 +24,13 @@ use Rattle.sheet.specs.Records.{record_size}
 use Rattle.write.specs.Written.{answer_sheet, number_bytes, sheet_buffer}
 use Rattle.sheet.specs.Values.{by_layout, map_literals}
 use Rattle.sheet.specs.declared.head.Head.{Head}
-use Rattle.answers.specs.Answers.{projectedLeaf}
+use Rattle.answers.specs.Answers.{projected_leaf}
 use Rattle.answers.specs.declared.leaf.Leaf.{Leaf}
 
 -- what a sheet's leaf is answered, by its head and the records of its literals
 abbrev pub projected_at : Question → Head → ℕ → List ℕ → List ℕ → Res (Projected (List ℕ))
 projected_at question head count s records =
-    projectedLeaf question head.column head.transform (leaf_of [] (by_arity head.operator) (contents_at s records count))
+    projected_leaf question head.column head.transform (leaf_of [] (by_arity head.operator) (contents_at s records count))
 
 -- ---- what the steps give, as bytes
 abbrev pub numbers_written : PrimitiveType → Res (Projected (Predicate ℤ)) → Res (Projected (List ℕ))
@@ -119,12 +119,12 @@ pub record ReadyLeaf (x : Leaf) (s records out : List ℕ) : Type 0 where
 abbrev pub kept_by : Question → Operator → Bool
 kept_by question (none o) = false
 kept_by question (one o) = false
-kept_by Inclusive (many isIn) = true
-kept_by Inclusive (many notIn) = false
-kept_by Strict (many isIn) = false
-kept_by Strict (many notIn) = true
-kept_by Older (many isIn) = false
-kept_by Older (many notIn) = true
+kept_by Inclusive (many is_in) = true
+kept_by Inclusive (many not_in) = false
+kept_by Strict (many is_in) = false
+kept_by Strict (many not_in) = true
+kept_by Older (many is_in) = false
+kept_by Older (many not_in) = true
 
 -- Identity keeps both
 abbrev pub keeps : Transform → Question → Operator → Bool

@@ -9,25 +9,25 @@ use Rattle.partition.specs.Partition.{number_partition, bytes_partition}
 use Rattle.projection.specs.Steps.{Projected}
 use Rattle.sheet.specs.Records.{value}
 use Rattle.write.specs.Written.{value_record, number_bytes}
-use Rattle.answers.specs.Answers.{transformedRow, asResult}
+use Rattle.answers.specs.Answers.{transformed_row, as_result}
 use Rattle.sheet.specs.Values.{map_row}
 
 -- a number's and a byte string's partition value, written
 unfoldable pub number_value : PrimitiveType → Transform → PrimitiveType → Row ℤ → Res (Projected (List ℕ))
-number_value column transform to r = asResult (do
+number_value column transform to r = as_result (do
   p ← number_partition column transform r
   ok (value_record (map_row (λ z. number_bytes (layout to) z) p)))
 
 unfoldable pub bytes_value : PrimitiveType → Transform → Row (List ℕ) → Res (Projected (List ℕ))
-bytes_value column transform r = asResult (do
+bytes_value column transform r = as_result (do
   p ← bytes_partition column transform r
   ok (value_record (map_row (λ s. s) p)))
 
 -- of a value record
 abbrev pub value_answer : PrimitiveType → Transform → List ℕ → Res (Projected (List ℕ))
-value_answer column transform v = asResult (do
+value_answer column transform v = as_result (do
   r ← value (layout column) v
-  transformedRow column transform r)
+  transformed_row column transform r)
 
 -- the number that a row's bytes are
 abbrev pub number_row_in : Row (List ℕ) → ℕ → Row ℤ

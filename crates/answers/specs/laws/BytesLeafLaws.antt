@@ -18,7 +18,7 @@ use Rattle.values.specs.declared.transform.Transform.{Transform}
 use Rattle.values.specs.declared.transform.Transform.TheVariants.{Identity, Truncate, Year, Month, Day, Hour, Void, Unknown}
 use Rattle.values.specs.declared.error.ErrorKind.TheVariants.{NoResultType}
 use Rattle.partition.specs.ResultType.{is_one_of, for_types, with_days, with_hours, result_type}
-use Rattle.expr.specs.Operators.{operator_number, SetOperator, isIn, notIn, Operator, none, one, many, by_arity, operator_of}
+use Rattle.expr.specs.Operators.{operator_number, SetOperator, is_in, not_in, Operator, none, one, many, by_arity, operator_of}
 use Rattle.expr.specs.code.OperatorAnswers.{leaf_of, takes_one, takes_many}
 use Rattle.expr.specs.laws.PredicateLaws.{operator_of_lem}
 use Rattle.expr.specs.Predicates.{test}
@@ -166,15 +166,15 @@ module _ (to : PrimitiveType) where
         → bytes_written to (through (bytes_step column t question) (leaf_of [] a ls)) ≡ set_written (operator_of a) (bytes_set column t ls)
     set_through t question (none u) h = absurd (true≢false (cc))
     set_through t question (one b) h = absurd (true≢false (cc))
-    set_through t Inclusive (many isIn) h =
-        ap (λ r. bytes_written to (r >>= λ q. ok (mapped test q))) (bytes_within column t ls) ∙ as_set_lem isIn (bytes_set column t ls)
-    set_through t Inclusive (many notIn) h = absurd (true≢false (cc))
-    set_through t Strict (many isIn) h = absurd (true≢false (cc))
-    set_through t Strict (many notIn) h =
-        ap (λ r. bytes_written to (r >>= λ q. ok (mapped test q))) (bytes_outside column t ls) ∙ as_set_lem notIn (bytes_set column t ls)
-    set_through t Older (many isIn) h = absurd (true≢false (cc))
-    set_through t Older (many notIn) h =
-        ap (λ r. bytes_written to (r >>= λ q. ok (mapped test q))) (bytes_outside column t ls) ∙ as_set_lem notIn (bytes_set column t ls)
+    set_through t Inclusive (many is_in) h =
+        ap (λ r. bytes_written to (r >>= λ q. ok (mapped test q))) (bytes_within column t ls) ∙ as_set_lem is_in (bytes_set column t ls)
+    set_through t Inclusive (many not_in) h = absurd (true≢false (cc))
+    set_through t Strict (many is_in) h = absurd (true≢false (cc))
+    set_through t Strict (many not_in) h =
+        ap (λ r. bytes_written to (r >>= λ q. ok (mapped test q))) (bytes_outside column t ls) ∙ as_set_lem not_in (bytes_set column t ls)
+    set_through t Older (many is_in) h = absurd (true≢false (cc))
+    set_through t Older (many not_in) h =
+        ap (λ r. bytes_written to (r >>= λ q. ok (mapped test q))) (bytes_outside column t ls) ∙ as_set_lem not_in (bytes_set column t ls)
 
 -- the set that the code collects of a leaf, written, is what the steps give
 abbrev pub set_at : Leaf → List ℕ → List ℕ → Res (List (List ℕ))

@@ -16,7 +16,7 @@ use Rattle.expr.specs.Predicates.{Predicate, literals_in}
 use Rattle.projection.specs.Projection.{project_numbers, project_bytes}
 use Rattle.projection.specs.Steps.{Projected}
 use Rattle.projection.specs.declared.question.Question.{Question}
-use Rattle.answers.specs.Answers.{projected, projectedLeaf}
+use Rattle.answers.specs.Answers.{projected, projected_leaf}
 use Rattle.sheet.specs.code.Contents.{all_utf8}
 use Rattle.answers.specs.Kinds.{numbers, byte_strings}
 use Rattle.sheet.specs.Values.{by_layout, map_literals}
@@ -55,8 +55,8 @@ module _ (question : Question) (column : PrimitiveType) (transform : Transform) 
       (λ n. result_type transform column >>= λ to. numbers_written to (project_numbers question column transform (number_leaf n)))
       (result_type transform column >>= λ to. bytes_written to (project_bytes question column transform leaf))
 
-  checked_leaf : projectedLeaf question column transform leaf ≡ (need (asked column leaf) NotUtf8 >> rest)
-  unfolding projectedLeaf
+  checked_leaf : projected_leaf question column transform leaf ≡ (need (asked column leaf) NotUtf8 >> rest)
+  unfolding projected_leaf
   checked_leaf = go (layout column) refl
     where
       go : (l : Layout) → layout column ≡ l
@@ -67,10 +67,10 @@ module _ (question : Question) (column : PrimitiveType) (transform : Transform) 
       go (number n) e = rw (number_literals n leaf, numbers_string column n e)
       go (bytes n) e = rw (bytes_literals column leaf) (then_on leaf (asked column leaf) _)
 
-  pub leaf_not_utf8 : asked column leaf ≡ false → projectedLeaf question column transform leaf ≡ err NotUtf8
+  pub leaf_not_utf8 : asked column leaf ≡ false → projected_leaf question column transform leaf ≡ err NotUtf8
   leaf_not_utf8 h = checked_leaf ∙ failing NotUtf8 rest h
 
-  pub leaf_no_type : {e : ErrorKind} → asked column leaf ≡ true → result_type transform column ≡ err e → projectedLeaf question column transform leaf ≡ err e
+  pub leaf_no_type : {e : ErrorKind} → asked column leaf ≡ true → result_type transform column ≡ err e → projected_leaf question column transform leaf ≡ err e
   leaf_no_type {e} h r = checked_leaf ∙ passing NotUtf8 rest h ∙ go (layout column)
     where
       go : (l : Layout) → by_layout l
@@ -81,7 +81,7 @@ module _ (question : Question) (column : PrimitiveType) (transform : Transform) 
       go (bytes n) = rw r
 
 pub leaf_steps : (x : Leaf) (leaf : Predicate (List ℕ)) → asked x.column leaf ≡ true → result_type x.transform x.column ≡ ok x.to
-    → projectedLeaf x.question x.column x.transform leaf ≡ steps x leaf
+    → projected_leaf x.question x.column x.transform leaf ≡ steps x leaf
 unfolding number_steps byte_steps project_numbers project_bytes
 leaf_steps x leaf h r = checked_leaf x.question x.column x.transform leaf ∙ passing NotUtf8 (rest x.question x.column x.transform leaf) h ∙ go (layout x.column)
   where

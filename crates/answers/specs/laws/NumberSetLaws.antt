@@ -15,7 +15,7 @@ use Rattle.values.specs.declared.error.ErrorKind.{ErrorKind}
 use Rattle.values.specs.declared.transform.Transform.{Transform}
 use Rattle.values.specs.declared.transform.Transform.TheVariants.{Identity, Truncate, Year, Month, Day, Hour, Void, Unknown}
 use Rattle.partition.specs.code.PartitionAnswers.{InType}
-use Rattle.expr.specs.Operators.{Operator, SetOperator, many, isIn, notIn, by_arity, operator_of, holds_limit}
+use Rattle.expr.specs.Operators.{Operator, SetOperator, many, is_in, not_in, by_arity, operator_of, holds_limit}
 use Rattle.expr.specs.code.OperatorAnswers.{takes_many}
 use Rattle.expr.specs.laws.PredicateLaws.{operator_of_lem}
 use Rattle.expr.specs.Predicates.{Predicate, test, set}
@@ -56,12 +56,12 @@ module _ (column : PrimitiveType) (question : Question) (o : SetOperator) (ls : 
       go : (question : Question) (o : SetOperator) → kept_by question (many o) ≡ true
           → (number_step column transform question (set o ls) >>= λ q. ok (mapped test q))
           ≡ (as_set o (number_set (lifts_for question column transform) column transform ls) >>= λ q. ok (mapped test q))
-      go Inclusive isIn h = rw (number_within column transform ls)
-      go Inclusive notIn h = absurd (false≢true h)
-      go Strict isIn h = absurd (false≢true h)
-      go Strict notIn h = rw (number_outside column transform ls)
-      go Older isIn h = absurd (false≢true h)
-      go Older notIn h = rw (number_outside_older column transform ls)
+      go Inclusive is_in h = rw (number_within column transform ls)
+      go Inclusive not_in h = absurd (false≢true h)
+      go Strict is_in h = absurd (false≢true h)
+      go Strict not_in h = rw (number_outside column transform ls)
+      go Older is_in h = absurd (false≢true h)
+      go Older not_in h = rw (number_outside_older column transform ls)
 
   not_lifted : (question : Question) → lifts_for question column Identity ≡ false
   not_lifted Inclusive = refl

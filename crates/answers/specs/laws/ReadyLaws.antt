@@ -15,7 +15,7 @@ use Rattle.expr.specs.Predicates.{Predicate, literals_in}
 use Rattle.expr.specs.declared.operator.PredicateOperator.{PredicateOperator}
 use Rattle.projection.specs.declared.question.Question.{Question}
 use Rattle.sheet.specs.code.ReadAnswers.{contents_at}
-use Rattle.answers.specs.Answers.{projectedLeaf}
+use Rattle.answers.specs.Answers.{projected_leaf}
 use Rattle.sheet.specs.laws.ReadLaws.{literals_taken}
 use Rattle.sheet.specs.code.Contents.{all_utf8}
 use Rattle.answers.specs.laws.LeafLaws.{leaf_not_utf8, leaf_no_type, leaf_steps}
@@ -38,14 +38,14 @@ module _ {column : PrimitiveType} {operator : PredicateOperator} {count : ℕ} {
   literals_encoded_lem = rw (literals_taken (layout column) s records count (by_arity operator) ready.placed ready.taken)
 
   module _ (question : Question) (transform : Transform) where
-    pub ready_not_utf8 : literals_ok ≡ false → projectedLeaf question column transform leaf ≡ err NotUtf8
+    pub ready_not_utf8 : literals_ok ≡ false → projected_leaf question column transform leaf ≡ err NotUtf8
     ready_not_utf8 h = leaf_not_utf8 question column transform leaf (literals_encoded_lem ∙ h)
 
     pub ready_no_type : {e : ErrorKind} → literals_ok ≡ true → result_type transform column ≡ err e
-        → projectedLeaf question column transform leaf ≡ err e
+        → projected_leaf question column transform leaf ≡ err e
     ready_no_type h r = leaf_no_type question column transform leaf (literals_encoded_lem ∙ h) r
 
 pub ready_steps : (x : Leaf) {s records out : List ℕ} (ready : Ready x.column x.operator x.count s records out) → literals_ok ready ≡ true
     → result_type x.transform x.column ≡ ok x.to
-    → projectedLeaf x.question x.column x.transform (bytes_leaf_at x s records) ≡ steps x (bytes_leaf_at x s records)
+    → projected_leaf x.question x.column x.transform (bytes_leaf_at x s records) ≡ steps x (bytes_leaf_at x s records)
 ready_steps x {s} {records} ready h r = leaf_steps x (bytes_leaf_at x s records) (literals_encoded_lem ready ∙ h) r

@@ -19,7 +19,7 @@ use Rattle.partition.specs.ResultType.{result_type}
 use Rattle.projection.specs.Steps.{some}
 use Rattle.sheet.specs.Records.{value}
 use Rattle.write.specs.Written.{value_record, number_bytes}
-use Rattle.answers.specs.Answers.{transformed, transformedRow, asResult}
+use Rattle.answers.specs.Answers.{transformed, transformed_row, as_result}
 use Rattle.sheet.specs.code.Contents.{row_utf8}
 use Rattle.answers.specs.Kinds.{numbers, byte_strings}
 use Rattle.sheet.specs.Values.{by_layout, map_row}
@@ -73,8 +73,8 @@ module _ (column : PrimitiveType) (transform : Transform) (r : Row (List ℕ)) w
         p ← bytes_partition column transform r
         ok (value_record (map_row (λ s. s) p)))
 
-  checked_row : transformedRow column transform r ≡ (need (asked column r) NotUtf8 >> rest (layout column))
-  unfolding transformedRow
+  checked_row : transformed_row column transform r ≡ (need (asked column r) NotUtf8 >> rest (layout column))
+  unfolding transformed_row
   checked_row = go (layout column) refl
     where
       go : (l : Layout) → layout column ≡ l
@@ -83,14 +83,14 @@ module _ (column : PrimitiveType) (transform : Transform) (r : Row (List ℕ)) w
       go (number n) e = rw (number_row_lem n r, numbers_string column n e)
       go (bytes n) e = rw (bytes_row column r) (then_on r (asked column r) _)
 
-  pub row_not_utf8 : asked column r ≡ false → transformedRow column transform r ≡ err NotUtf8
+  pub row_not_utf8 : asked column r ≡ false → transformed_row column transform r ≡ err NotUtf8
   row_not_utf8 h = checked_row ∙ failing NotUtf8 (rest (layout column)) h
 
   module _ (h : asked column r ≡ true) where
-    passed_row : transformedRow column transform r ≡ rest (layout column)
+    passed_row : transformed_row column transform r ≡ rest (layout column)
     passed_row = checked_row ∙ passing NotUtf8 (rest (layout column)) h
 
-    pub row_no_type : {e : ErrorKind} → result_type transform column ≡ err e → transformedRow column transform r ≡ err e
+    pub row_no_type : {e : ErrorKind} → result_type transform column ≡ err e → transformed_row column transform r ≡ err e
     row_no_type {e} t = passed_row ∙ go (layout column)
       where
         go : (l : Layout) → rest l ≡ err e
@@ -98,13 +98,13 @@ module _ (column : PrimitiveType) (transform : Transform) (r : Row (List ℕ)) w
         go (bytes n) = rw t
 
     module _ {to : PrimitiveType} (t : result_type transform column ≡ ok to) where
-      pub row_of_numbers : (n : ℕ) → layout column ≡ number n → asResult (transformedRow column transform r) ≡ number_value column transform to (number_row_in r n)
+      pub row_of_numbers : (n : ℕ) → layout column ≡ number n → as_result (transformed_row column transform r) ≡ number_value column transform to (number_row_in r n)
       unfolding number_value
-      row_of_numbers n e = ap asResult passed_row ∙ rw (e, t)
+      row_of_numbers n e = ap as_result passed_row ∙ rw (e, t)
 
-      pub row_of_bytes : (n : ℕ) → layout column ≡ bytes n → asResult (transformedRow column transform r) ≡ bytes_value column transform r
+      pub row_of_bytes : (n : ℕ) → layout column ≡ bytes n → as_result (transformed_row column transform r) ≡ bytes_value column transform r
       unfolding bytes_value
-      row_of_bytes n e = ap asResult passed_row ∙ rw (e, t)
+      row_of_bytes n e = ap as_result passed_row ∙ rw (e, t)
 
 -- a number has as many bytes as its type asks for, where there is one
 pub row_sized : (column : PrimitiveType) (n : ℕ) (there : Bool) (s : List ℕ) → layout column ≡ number n
@@ -123,5 +123,5 @@ module _ (column : PrimitiveType) (transform : Transform) (v : List ℕ) where
   pub value_unread : {e : ErrorKind} → value (layout column) v ≡ err e → value_answer column transform v ≡ err e
   value_unread h = rw h
 
-  pub value_answered : {r : Row (List ℕ)} → value (layout column) v ≡ ok r → value_answer column transform v ≡ asResult (transformedRow column transform r)
+  pub value_answered : {r : Row (List ℕ)} → value (layout column) v ≡ ok r → value_answer column transform v ≡ as_result (transformed_row column transform r)
   value_answered h = rw h

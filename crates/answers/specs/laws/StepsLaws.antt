@@ -14,7 +14,7 @@ use Rattle.values.specs.declared.order.Ordering.{Ordering}
 use Rattle.values.specs.declared.transform.Transform.{Transform}
 use Rattle.values.specs.declared.transform.Transform.TheVariants.{Identity, Truncate, Year, Month, Day, Hour, Void, Unknown}
 use Rattle.expr.specs.Operators as operators
-use Rattle.expr.specs.Operators.{Unary, SetOperator, isIn, notIn, Operator, one, many, by_arity, operator_of}
+use Rattle.expr.specs.Operators.{Unary, SetOperator, is_in, not_in, Operator, one, many, by_arity, operator_of}
 use Rattle.expr.specs.code.OperatorAnswers.{leaf_of, takes_none, takes_many}
 use Rattle.expr.specs.laws.PredicateLaws.{operator_of_lem}
 use Rattle.expr.specs.Predicates.{Test, Predicate, unary, test, set}
@@ -63,21 +63,21 @@ module _ {A : Type 0} (compare : A → A → Ordering) (step : Test A → Res (P
 module _ (column : PrimitiveType) (transform : Transform) where
   numbers_not_kept : (question : Question) (o : SetOperator) (ls : List ℤ) → kept_by question (many o) ≡ false
       → number_step column transform question (set o ls) ≡ ok none
-  numbers_not_kept Inclusive isIn ls h = clash refl h
-  numbers_not_kept Inclusive notIn ls h = ap ok (sym (lifted_none (lifted column transform)))
-  numbers_not_kept Strict isIn ls h = refl
-  numbers_not_kept Strict notIn ls h = clash refl h
-  numbers_not_kept Older isIn ls h = refl
-  numbers_not_kept Older notIn ls h = clash refl h
+  numbers_not_kept Inclusive is_in ls h = clash refl h
+  numbers_not_kept Inclusive not_in ls h = ap ok (sym (lifted_none (lifted column transform)))
+  numbers_not_kept Strict is_in ls h = refl
+  numbers_not_kept Strict not_in ls h = clash refl h
+  numbers_not_kept Older is_in ls h = refl
+  numbers_not_kept Older not_in ls h = clash refl h
 
   bytes_not_kept : (question : Question) (o : SetOperator) (ls : List (List ℕ)) → kept_by question (many o) ≡ false
       → bytes_step column transform question (set o ls) ≡ ok none
-  bytes_not_kept Inclusive isIn ls h = clash refl h
-  bytes_not_kept Inclusive notIn ls h = refl
-  bytes_not_kept Strict isIn ls h = refl
-  bytes_not_kept Strict notIn ls h = clash refl h
-  bytes_not_kept Older isIn ls h = refl
-  bytes_not_kept Older notIn ls h = clash refl h
+  bytes_not_kept Inclusive is_in ls h = clash refl h
+  bytes_not_kept Inclusive not_in ls h = refl
+  bytes_not_kept Strict is_in ls h = refl
+  bytes_not_kept Strict not_in ls h = clash refl h
+  bytes_not_kept Older is_in ls h = refl
+  bytes_not_kept Older not_in ls h = clash refl h
 
 zero_number : (column : PrimitiveType) → number_in (layout column) [] ≡ pos 0
 zero_number Int = refl

@@ -15,7 +15,7 @@ use Rattle.values.specs.laws.RangeLaws.{next}
 use Rattle.values.specs.laws.TestLaws.{stable, clash, same_test, or_cases, or_left, or_right, or_neither, and_both, both_and}
 use Rattle.expr.specs.Holds.{number_tests, binary_meets}
 use Rattle.expr.specs.laws.EqualityLaws.{number_tells, is_same, is_member}
-use Rattle.expr.specs.Operators.{Binary, lessThan, lessThanOrEq, greaterThan, greaterThanOrEq, eq, notEq, starts_with, notStartsWith}
+use Rattle.expr.specs.Operators.{Binary, less_than, less_than_or_eq, greater_than, greater_than_or_eq, eq, not_eq, starts_with, not_starts_with}
 use Rattle.summary.specs.EndValues.{lies_in}
 use Rattle.summary.specs.Summaries.{◌to◌}
 use Rattle.ends.specs.Between.{from, between}
@@ -118,12 +118,12 @@ some_member ls low high h =
 module _ (l low high v : ℤ) (a : low ≤ℤ v) (b : v ≤ℤ high) where
   one_end : (o : Binary) → (o ≢ eq) → binary_meets number_tests o v l ≡ true
       → (binary_meets number_tests o low l || binary_meets number_tests o high l) ≡ true
-  one_end lessThan other m = or_left _ ((is_below low l).1 (let k = (is_below v l).0 m in omega ints))
-  one_end lessThanOrEq other m = or_left _ ((is_at_most low l).1 (let k = (is_at_most v l).0 m in omega ints))
-  one_end greaterThan other m = or_right (is_less (compare_numbers l low)) ((is_below l high).1 (let k = (is_below l v).0 m in omega ints))
-  one_end greaterThanOrEq other m = or_right (not (is_less (compare_numbers low l))) ((is_at_most l high).1 (let k = (is_at_most l v).0 m in omega ints))
+  one_end less_than other m = or_left _ ((is_below low l).1 (let k = (is_below v l).0 m in omega ints))
+  one_end less_than_or_eq other m = or_left _ ((is_at_most low l).1 (let k = (is_at_most v l).0 m in omega ints))
+  one_end greater_than other m = or_right (is_less (compare_numbers l low)) ((is_below l high).1 (let k = (is_below l v).0 m in omega ints))
+  one_end greater_than_or_eq other m = or_right (not (is_less (compare_numbers low l))) ((is_at_most l high).1 (let k = (is_at_most l v).0 m in omega ints))
   one_end eq other m = absurd (other refl)
-  one_end notEq other m =
+  one_end not_eq other m =
       stable
       _
       (λ e. let ends = or_neither (not (is_equal (compare_numbers low l))) (not (is_equal (compare_numbers high l))) e in
@@ -131,7 +131,7 @@ module _ (l low high v : ℤ) (a : low ≤ℤ v) (b : v ≤ℤ high) where
       let at_high = (is_same number_tests number_tells high l).0 (not-false _ ends.1) in
       clash ((is_same number_tests number_tells v l).1 (omega ints)) (not-true _ m))
   one_end starts_with other m = clash m refl
-  one_end notStartsWith other m = refl
+  one_end not_starts_with other m = refl
 
 pub by_both_ends : (o : Binary) (l low high : ℤ) → (o ≢ eq) → low ≤ℤ high
     → some (λ v. binary_meets number_tests o v l) (between low high) ≡ (binary_meets number_tests o low l || binary_meets number_tests o high l)

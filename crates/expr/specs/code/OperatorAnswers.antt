@@ -72,14 +72,14 @@ meets_one by (many o) v l = false
 -- whether an order of a value to a literal is one that a comparison asks for, where `flip o` is that of the literal to the value; a beginning asks for
 -- none
 abbrev pub comparison_asks : operators.Binary → Ordering → Bool
-comparison_asks operators.lessThan o = is_less o
-comparison_asks operators.lessThanOrEq o = not (is_less (flip o))
-comparison_asks operators.greaterThan o = is_less (flip o)
-comparison_asks operators.greaterThanOrEq o = not (is_less o)
+comparison_asks operators.less_than o = is_less o
+comparison_asks operators.less_than_or_eq o = not (is_less (flip o))
+comparison_asks operators.greater_than o = is_less (flip o)
+comparison_asks operators.greater_than_or_eq o = not (is_less o)
 comparison_asks operators.eq o = is_equal o
-comparison_asks operators.notEq o = not (is_equal o)
+comparison_asks operators.not_eq o = not (is_equal o)
 comparison_asks operators.starts_with o = false
-comparison_asks operators.notStartsWith o = false
+comparison_asks operators.not_starts_with o = false
 
 abbrev pub asks_for : Operator → Ordering → Bool
 asks_for (none o) order = false

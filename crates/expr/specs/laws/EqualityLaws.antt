@@ -7,7 +7,7 @@ use Rattle.values.specs.laws.AscendingLaws.{elem_iff, elem_ascending}
 use Rattle.values.specs.laws.OrderLaws.{is_equal_lem, number_order, bytes_order}
 use Rattle.values.specs.declared.order.Ordering.TheVariants.{Equal}
 use Rattle.expr.specs.Holds.{Tests, number_tests, bytes_tests, meets}
-use Rattle.expr.specs.Operators.{eq, isIn}
+use Rattle.expr.specs.Operators.{eq, is_in}
 use Rattle.expr.specs.Predicates.{binary, set}
 
 pub record Tells {A : Type 0} (by : Tests A) : Type 0 where
@@ -27,9 +27,9 @@ module _ {A : Type 0} (by : Tests A) (tells : Tells by) where
     λ e. (is_equal_lem (by.compare v l)).1 (ap (by.compare v) (sym e) ∙ tells.self v),
   )
 
-  pub is_member : (v : A) (ls : List A) → (meets by (set isIn ls) v ≡ true) ↔ Isin v ls
+  pub is_member : (v : A) (ls : List A) → (meets by (set is_in ls) v ≡ true) ↔ Isin v ls
   is_member v ls = elem_iff by.compare tells.equal tells.self v ls
 
   -- the order of the literals, and repeats, change nothing
-  pub is_ascending_member : (v : A) (ls : List A) → (meets by (set isIn (ascending by.compare ls)) v ≡ true) ↔ Isin v ls
+  pub is_ascending_member : (v : A) (ls : List A) → (meets by (set is_in (ascending by.compare ls)) v ≡ true) ↔ Isin v ls
   is_ascending_member v ls = rw (elem_ascending by.compare tells.equal v ls) (is_member v ls)

@@ -17,37 +17,37 @@ use Rattle.expr.specs.Predicates.{Test, binary, set, test, operator_in, literals
 
 -- ---- opposites
 abbrev pub opposite_set : operators.SetOperator → operators.SetOperator
-opposite_set operators.isIn = operators.notIn
-opposite_set operators.notIn = operators.isIn
+opposite_set operators.is_in = operators.not_in
+opposite_set operators.not_in = operators.is_in
 
 abbrev pub opposite : {A : Type 0} → Test A → Test A
 opposite (binary o l) = binary (operators.opposite_binary o) l
 opposite (set o ls) = set (opposite_set o) ls
 
 pub opposite_twice : {A : Type 0} (t : Test A) → opposite (opposite t) ≡ t
-opposite_twice (binary operators.lessThan l) = refl
-opposite_twice (binary operators.lessThanOrEq l) = refl
-opposite_twice (binary operators.greaterThan l) = refl
-opposite_twice (binary operators.greaterThanOrEq l) = refl
+opposite_twice (binary operators.less_than l) = refl
+opposite_twice (binary operators.less_than_or_eq l) = refl
+opposite_twice (binary operators.greater_than l) = refl
+opposite_twice (binary operators.greater_than_or_eq l) = refl
 opposite_twice (binary operators.eq l) = refl
-opposite_twice (binary operators.notEq l) = refl
+opposite_twice (binary operators.not_eq l) = refl
 opposite_twice (binary operators.starts_with l) = refl
-opposite_twice (binary operators.notStartsWith l) = refl
-opposite_twice (set operators.isIn ls) = refl
-opposite_twice (set operators.notIn ls) = refl
+opposite_twice (binary operators.not_starts_with l) = refl
+opposite_twice (set operators.is_in ls) = refl
+opposite_twice (set operators.not_in ls) = refl
 
 -- the code's `negate`
 pub opposite_operator : {A : Type 0} (t : Test A) → operator_in (test (opposite t)) ≡ negated (operator_in (test t))
-opposite_operator (binary operators.lessThan l) = refl
-opposite_operator (binary operators.lessThanOrEq l) = refl
-opposite_operator (binary operators.greaterThan l) = refl
-opposite_operator (binary operators.greaterThanOrEq l) = refl
+opposite_operator (binary operators.less_than l) = refl
+opposite_operator (binary operators.less_than_or_eq l) = refl
+opposite_operator (binary operators.greater_than l) = refl
+opposite_operator (binary operators.greater_than_or_eq l) = refl
 opposite_operator (binary operators.eq l) = refl
-opposite_operator (binary operators.notEq l) = refl
+opposite_operator (binary operators.not_eq l) = refl
 opposite_operator (binary operators.starts_with l) = refl
-opposite_operator (binary operators.notStartsWith l) = refl
-opposite_operator (set operators.isIn ls) = refl
-opposite_operator (set operators.notIn ls) = refl
+opposite_operator (binary operators.not_starts_with l) = refl
+opposite_operator (set operators.is_in ls) = refl
+opposite_operator (set operators.not_in ls) = refl
 
 pub opposite_literals : {A : Type 0} (t : Test A) → literals_in (test (opposite t)) ≡ literals_in (test t)
 opposite_literals (binary o l) = refl
@@ -56,16 +56,16 @@ opposite_literals (set o ls) = refl
 module _ {A : Type 0} (by : Tests A) where
   -- a present value meets the opposite exactly where it does not meet the test. This asks nothing of the comparison: "at most" is defined as not greater
   pub meets_opposite : (t : Test A) (v : A) → meets by (opposite t) v ≡ not (meets by t v)
-  meets_opposite (binary operators.lessThan l) v = refl
-  meets_opposite (binary operators.lessThanOrEq l) v = sym (not_not _)
-  meets_opposite (binary operators.greaterThan l) v = refl
-  meets_opposite (binary operators.greaterThanOrEq l) v = sym (not_not _)
+  meets_opposite (binary operators.less_than l) v = refl
+  meets_opposite (binary operators.less_than_or_eq l) v = sym (not_not _)
+  meets_opposite (binary operators.greater_than l) v = refl
+  meets_opposite (binary operators.greater_than_or_eq l) v = sym (not_not _)
   meets_opposite (binary operators.eq l) v = refl
-  meets_opposite (binary operators.notEq l) v = sym (not_not _)
+  meets_opposite (binary operators.not_eq l) v = sym (not_not _)
   meets_opposite (binary operators.starts_with l) v = refl
-  meets_opposite (binary operators.notStartsWith l) v = sym (not_not _)
-  meets_opposite (set operators.isIn ls) v = refl
-  meets_opposite (set operators.notIn ls) v = sym (not_not _)
+  meets_opposite (binary operators.not_starts_with l) v = sym (not_not _)
+  meets_opposite (set operators.is_in ls) v = refl
+  meets_opposite (set operators.not_in ls) v = sym (not_not _)
 
   pub meets_false : (t : Test A) (v : A) → meets by (opposite t) v ≡ true → meets by t v ≡ false
   meets_false t v h = sym (not_not _) ∙ ap not (sym (meets_opposite t v) ∙ h)
@@ -76,8 +76,8 @@ module _ {A : Type 0} (by : Tests A) where
   -- ---- sets: only their members matter
   pub set_members : (o : operators.SetOperator) (v : A) (ks ls : List A)
       → elem by.compare v ks ≡ elem by.compare v ls → set_meets by o v ks ≡ set_meets by o v ls
-  set_members operators.isIn v ks ls e = e
-  set_members operators.notIn v ks ls e = ap not e
+  set_members operators.is_in v ks ls e = e
+  set_members operators.not_in v ks ls e = ap not e
 
   pub meets_ascending : ((a b : A) → by.compare a b ≡ Equal → a ≡ b) → (o : operators.SetOperator) (ls : List A) (v : A)
       → meets by (set o (ascending by.compare ls)) v ≡ meets by (set o ls) v
@@ -86,30 +86,30 @@ module _ {A : Type 0} (by : Tests A) where
 -- ---- a missing value, after 02, #106. Of Eq, NotEq, StartsWith, NotStartsWith, In and NotIn it meets one and not its opposite, as every present value does
 pub missing_opposite : (o : operators.Binary) → operators.ordered o ≡ false
     → missing_meets (operators.one (operators.opposite_binary o)) ≡ not (missing_meets (operators.one o))
-missing_opposite operators.lessThan h = absurd (true≢false h)
-missing_opposite operators.lessThanOrEq h = absurd (true≢false h)
-missing_opposite operators.greaterThan h = absurd (true≢false h)
-missing_opposite operators.greaterThanOrEq h = absurd (true≢false h)
+missing_opposite operators.less_than h = absurd (true≢false h)
+missing_opposite operators.less_than_or_eq h = absurd (true≢false h)
+missing_opposite operators.greater_than h = absurd (true≢false h)
+missing_opposite operators.greater_than_or_eq h = absurd (true≢false h)
 missing_opposite operators.eq h = refl
-missing_opposite operators.notEq h = refl
+missing_opposite operators.not_eq h = refl
 missing_opposite operators.starts_with h = refl
-missing_opposite operators.notStartsWith h = refl
+missing_opposite operators.not_starts_with h = refl
 
 pub missing_opposite_set : (o : operators.SetOperator) → missing_meets (operators.many (opposite_set o)) ≡ not (missing_meets (operators.many o))
-missing_opposite_set operators.isIn = refl
-missing_opposite_set operators.notIn = refl
+missing_opposite_set operators.is_in = refl
+missing_opposite_set operators.not_in = refl
 
 -- of <, ≤, > and ≥ it meets none, and so neither one nor its opposite
 pub missing_unordered : (o : operators.Binary) → operators.ordered o ≡ true
     → (missing_meets (operators.one o) ≡ false) × (missing_meets (operators.one (operators.opposite_binary o)) ≡ false)
-missing_unordered operators.lessThan h = (refl, refl)
-missing_unordered operators.lessThanOrEq h = (refl, refl)
-missing_unordered operators.greaterThan h = (refl, refl)
-missing_unordered operators.greaterThanOrEq h = (refl, refl)
+missing_unordered operators.less_than h = (refl, refl)
+missing_unordered operators.less_than_or_eq h = (refl, refl)
+missing_unordered operators.greater_than h = (refl, refl)
+missing_unordered operators.greater_than_or_eq h = (refl, refl)
 missing_unordered operators.eq h = absurd (false≢true h)
-missing_unordered operators.notEq h = absurd (false≢true h)
+missing_unordered operators.not_eq h = absurd (false≢true h)
 missing_unordered operators.starts_with h = absurd (false≢true h)
-missing_unordered operators.notStartsWith h = absurd (false≢true h)
+missing_unordered operators.not_starts_with h = absurd (false≢true h)
 
 -- ---- a leaf by its operator and its literals
 module _ {A : Type 0} (by : Tests A) (other : A) (ls : List A) where
@@ -133,13 +133,13 @@ module _ {A : Type 0} (by : Tests A) (other : A) (ls : List A) where
   negated_leaf NotNull v = refl
   negated_leaf IsNan v = refl
   negated_leaf NotNan v = refl
-  negated_leaf LessThan v = opposite_one operators.lessThan v
-  negated_leaf LessThanOrEq v = opposite_one operators.lessThanOrEq v
-  negated_leaf GreaterThan v = opposite_one operators.greaterThan v
-  negated_leaf GreaterThanOrEq v = opposite_one operators.greaterThanOrEq v
+  negated_leaf LessThan v = opposite_one operators.less_than v
+  negated_leaf LessThanOrEq v = opposite_one operators.less_than_or_eq v
+  negated_leaf GreaterThan v = opposite_one operators.greater_than v
+  negated_leaf GreaterThanOrEq v = opposite_one operators.greater_than_or_eq v
   negated_leaf Eq v = opposite_one operators.eq v
-  negated_leaf NotEq v = opposite_one operators.notEq v
+  negated_leaf NotEq v = opposite_one operators.not_eq v
   negated_leaf StartsWith v = opposite_one operators.starts_with v
-  negated_leaf NotStartsWith v = opposite_one operators.notStartsWith v
-  negated_leaf In v = meets_opposite by (set operators.isIn ls) v
-  negated_leaf NotIn v = meets_opposite by (set operators.notIn ls) v
+  negated_leaf NotStartsWith v = opposite_one operators.not_starts_with v
+  negated_leaf In v = meets_opposite by (set operators.is_in ls) v
+  negated_leaf NotIn v = meets_opposite by (set operators.not_in ls) v

@@ -9,7 +9,7 @@ use Rattle.values.specs.laws.OutcomeLaws.{ok_inj, ok_not_err}
 use Rattle.values.specs.laws.TypesLaws.{found_number}
 use Rattle.expr.specs.Operators.{operators, operator_number, Operator, none, one, many, by_arity, operator_of}
 use Rattle.expr.specs.code.OperatorAnswers.{negated, takes, leaf_of, takes_none, takes_one, takes_many}
-use Rattle.expr.specs.Operators.{is_null, notNull, is_nan, notNan, lessThan, lessThanOrEq, greaterThan, greaterThanOrEq, eq, notEq, starts_with, notStartsWith, isIn, notIn}
+use Rattle.expr.specs.Operators.{is_null, not_null, is_nan, not_nan, less_than, less_than_or_eq, greater_than, greater_than_or_eq, eq, not_eq, starts_with, not_starts_with, is_in, not_in}
 use Rattle.expr.specs.Predicates.{Predicate, unary, test, binary, set, by_arity_in, operator_in, literals_in, with_literals, predicate}
 use Rattle.expr.specs.declared.operator.PredicateOperator.{PredicateOperator}
 use Rattle.expr.specs.declared.operator.PredicateOperator.TheVariants.{IsNull, NotNull, IsNan, NotNan, LessThan, LessThanOrEq, GreaterThan, GreaterThanOrEq, Eq, NotEq, StartsWith, NotStartsWith, In, NotIn}
@@ -44,19 +44,19 @@ operator_number_lem n o e =
 -- ---- how many literals
 pub arity_of : (a : Operator) → by_arity (operator_of a) ≡ a
 arity_of (none is_null) = refl
-arity_of (none notNull) = refl
+arity_of (none not_null) = refl
 arity_of (none is_nan) = refl
-arity_of (none notNan) = refl
-arity_of (one lessThan) = refl
-arity_of (one lessThanOrEq) = refl
-arity_of (one greaterThan) = refl
-arity_of (one greaterThanOrEq) = refl
+arity_of (none not_nan) = refl
+arity_of (one less_than) = refl
+arity_of (one less_than_or_eq) = refl
+arity_of (one greater_than) = refl
+arity_of (one greater_than_or_eq) = refl
 arity_of (one eq) = refl
-arity_of (one notEq) = refl
+arity_of (one not_eq) = refl
 arity_of (one starts_with) = refl
-arity_of (one notStartsWith) = refl
-arity_of (many isIn) = refl
-arity_of (many notIn) = refl
+arity_of (one not_starts_with) = refl
+arity_of (many is_in) = refl
+arity_of (many not_in) = refl
 
 pub operator_of_lem : (o : PredicateOperator) → operator_of (by_arity o) ≡ o
 operator_of_lem IsNull = refl

@@ -10,7 +10,7 @@ use Rattle.expr.specs.Operators.{holds_limit}
 use Rattle.expr.specs.Predicates.{Predicate}
 use Rattle.sheet.specs.Sheets.{sheet}
 use Rattle.sheet.specs.laws.RefusalLaws.{Only, only_ok, only_bind, only_need, malformed, sheet_only}
-use Rattle.answers.specs.Answers.{answer_of, answerNumber}
+use Rattle.answers.specs.Answers.{answer_of, answer_number}
 use Rattle.answers.specs.declared.answer.Answer.TheVariants.{BufferTooSmall}
 use Rattle.summary.specs.EndValues.{compare_in, ordered}
 use Rattle.summary.specs.code.SummaryAnswers.{ends_encoded}
@@ -39,7 +39,7 @@ test_only s f =
     only_bind (summary f) _ (malformed (inl refl) (summary_only f)) (λ file. judged_only x.head.column x.leaf file))
 
 -- 0, 2, 3, 4 and 11, and no other
-pub answers : (s f out : List ℕ) → let n = answerNumber (test_answer s f out) in (n ≡ 0) ⊎ ((n ≡ 2) ⊎ ((n ≡ 3) ⊎ ((n ≡ 4) ⊎ (n ≡ 11))))
+pub answers : (s f out : List ℕ) → let n = answer_number (test_answer s f out) in (n ≡ 0) ⊎ ((n ≡ 2) ⊎ ((n ≡ 3) ⊎ ((n ≡ 4) ⊎ (n ≡ 11))))
 answers s f out = go (ltb (length out) verdict_buffer) (test_summary s f) (test_only s f)
   where
     refusal : {e : ErrorKind} → Refusal e → (error_number e ≡ 3) ⊎ ((error_number e ≡ 4) ⊎ (error_number e ≡ 11))
@@ -48,7 +48,7 @@ answers s f out = go (ltb (length out) verdict_buffer) (test_summary s f) (test_
     refusal (inr (inr is)) = inr (inr (ap error_number is))
 
     go : (small : Bool) (r : Res Verdict) → Only Refusal r
-        → let n = answerNumber (cond small BufferTooSmall (answer_of (verdict_byte r))) in (n ≡ 0) ⊎ ((n ≡ 2) ⊎ ((n ≡ 3) ⊎ ((n ≡ 4) ⊎ (n ≡ 11))))
+        → let n = answer_number (cond small BufferTooSmall (answer_of (verdict_byte r))) in (n ≡ 0) ⊎ ((n ≡ 2) ⊎ ((n ≡ 3) ⊎ ((n ≡ 4) ⊎ (n ≡ 11))))
     go true r h = inr (inl refl)
     go false (ok v) h = inl refl
     go false (err e) h = inr (inr (refusal (h.only e refl)))

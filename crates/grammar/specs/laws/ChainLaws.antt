@@ -3,7 +3,7 @@ use Rattle.std.specs.Prelude.{ℕ, zero, suc, ◌<◌, Bool, true, false, cond, 
 use Rattle.std.proofs.Common.{arith, true≢false, ◌∙◌}
 use Rattle.values.specs.laws.TestLaws.{clash}
 use Rattle.grammar.specs.Filters.{Filter}
-use Rattle.grammar.specs.Grammar.{Symbol, leaf_of, andWord, orWord, notWord, opening, closing, unreadable}
+use Rattle.grammar.specs.Grammar.{Symbol, leaf_of, and_word, or_word, not_word, opening, closing, unreadable}
 use Rattle.grammar.specs.Parser.{Found, found, nothing, ◌>>=◌, Parser, is_and, is_or, more, chain}
 
 module _ {L : Type 0} where
@@ -19,20 +19,20 @@ module _ {L : Type 0} where
   bound nothing then e = no_filter_lem e
   bound (found g r) then e = (g, r, refl, e)
 
-  pub only_and : (t : Symbol L) → is_and t ≡ true → t ≡ andWord
+  pub only_and : (t : Symbol L) → is_and t ≡ true → t ≡ and_word
   only_and (leaf_of l) e = clash e refl
-  only_and andWord e = refl
-  only_and orWord e = clash e refl
-  only_and notWord e = clash e refl
+  only_and and_word e = refl
+  only_and or_word e = clash e refl
+  only_and not_word e = clash e refl
   only_and opening e = clash e refl
   only_and closing e = clash e refl
   only_and unreadable e = clash e refl
 
-  pub only_or : (t : Symbol L) → is_or t ≡ true → t ≡ orWord
+  pub only_or : (t : Symbol L) → is_or t ≡ true → t ≡ or_word
   only_or (leaf_of l) e = clash e refl
-  only_or andWord e = clash e refl
-  only_or orWord e = refl
-  only_or notWord e = clash e refl
+  only_or and_word e = clash e refl
+  only_or or_word e = refl
+  only_or not_word e = clash e refl
   only_or opening e = clash e refl
   only_or closing e = clash e refl
   only_or unreadable e = clash e refl

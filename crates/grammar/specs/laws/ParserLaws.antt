@@ -4,7 +4,7 @@ use Rattle.std.proofs.Common.{arith, ◌∙◌}
 use Rattle.std.specs.Prelude.{false, List, [], ◌∷◌, ◌≡◌, length}
 use Rattle.std.proofs.Math.Path.{refl}
 use Rattle.grammar.specs.Filters.{Filter, either, both, bracket, leaves}
-use Rattle.grammar.specs.Grammar.{Symbol, leaf_of, andWord, orWord, notWord, opening, closing, unreadable}
+use Rattle.grammar.specs.Grammar.{Symbol, leaf_of, and_word, or_word, not_word, opening, closing, unreadable}
 use Rattle.grammar.specs.Grammar.{Single, a_leaf, a_not, in_brackets}
 use Rattle.grammar.specs.Grammar.{Conjunction, one_single, and_single, Disjunction, one_conjunction, or_conjunction}
 use Rattle.grammar.specs.Parser.{found, Parser, is_and, is_or, chain, closed, single_with, single, conjunction, disjunction, ParserMeans}
@@ -30,9 +30,9 @@ module _ {L : Type 0} where
       → Single (opening ∷ us) f rest
   closed_sound us f g [] rest d e = no_filter_lem e
   closed_sound us f g (leaf_of l ∷ r) rest d e = no_filter_lem e
-  closed_sound us f g (andWord ∷ r) rest d e = no_filter_lem e
-  closed_sound us f g (orWord ∷ r) rest d e = no_filter_lem e
-  closed_sound us f g (notWord ∷ r) rest d e = no_filter_lem e
+  closed_sound us f g (and_word ∷ r) rest d e = no_filter_lem e
+  closed_sound us f g (or_word ∷ r) rest d e = no_filter_lem e
+  closed_sound us f g (not_word ∷ r) rest d e = no_filter_lem e
   closed_sound us f g (opening ∷ r) rest d e = no_filter_lem e
   closed_sound us f g (closing ∷ r) rest d e = same (Single (opening ∷ us)) (in_brackets d) e
   closed_sound us f g (unreadable ∷ r) rest d e = no_filter_lem e
@@ -40,9 +40,9 @@ module _ {L : Type 0} where
   with_sound : (again inner : Parser L) → Sound again Single → Sound inner Disjunction → Sound (single_with again inner) Single
   with_sound again inner h k [] f rest e = no_filter_lem e
   with_sound again inner h k (leaf_of l ∷ ts) f rest e = same (Single (leaf_of l ∷ ts)) a_leaf e
-  with_sound again inner h k (andWord ∷ ts) f rest e = no_filter_lem e
-  with_sound again inner h k (orWord ∷ ts) f rest e = no_filter_lem e
-  with_sound again inner h k (notWord ∷ ts) f rest e = let x = bound (again ts) _ e in same (Single (notWord ∷ ts)) (a_not (h ts x.0 x.1 x.2)) x.3
+  with_sound again inner h k (and_word ∷ ts) f rest e = no_filter_lem e
+  with_sound again inner h k (or_word ∷ ts) f rest e = no_filter_lem e
+  with_sound again inner h k (not_word ∷ ts) f rest e = let x = bound (again ts) _ e in same (Single (not_word ∷ ts)) (a_not (h ts x.0 x.1 x.2)) x.3
   with_sound again inner h k (opening ∷ ts) f rest e =
       let x = bound (inner ts) closed e in
       closed_sound ts f x.0 x.1 rest (k ts x.0 x.1 x.2) x.3

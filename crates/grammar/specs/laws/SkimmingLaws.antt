@@ -3,7 +3,7 @@ use Rattle.std.specs.Prelude.{ℕ, zero, suc, ◌<◌, Bool, true, false, cond, 
 use Rattle.std.proofs.Common.{arith, ◌∙◌}
 use Rattle.values.specs.laws.TestLaws.{clash}
 use Rattle.grammar.specs.Filters.{Filter, either, both, opposite}
-use Rattle.grammar.specs.Grammar.{Symbol, leaf_of, andWord, orWord, notWord, opening, closing, unreadable}
+use Rattle.grammar.specs.Grammar.{Symbol, leaf_of, and_word, or_word, not_word, opening, closing, unreadable}
 use Rattle.grammar.specs.Parser.{Found, found, nothing, ◌>>=◌, Parser, is_and, is_or, more, chain, closed, single_with, single, conjunction, disjunction}
 use Rattle.grammar.specs.code.Skimming.{Skimmed, past, broken, closes, operand, between}
 use Rattle.grammar.specs.laws.ChainLaws.{only_and, only_or, begins, chain_ends}
@@ -75,9 +75,9 @@ module _ {L : Type 0} where
       → between rest d ≡ onward (λ r. closes d (past r) (between r)) (closed f rest)
   bracket_ends d f [] a o = refl
   bracket_ends d f (leaf_of l ∷ rest) a o = refl
-  bracket_ends d f (andWord ∷ rest) a o = clash refl a
-  bracket_ends d f (orWord ∷ rest) a o = clash refl o
-  bracket_ends d f (notWord ∷ rest) a o = refl
+  bracket_ends d f (and_word ∷ rest) a o = clash refl a
+  bracket_ends d f (or_word ∷ rest) a o = clash refl o
+  bracket_ends d f (not_word ∷ rest) a o = refl
   bracket_ends d f (opening ∷ rest) a o = refl
   bracket_ends d f (closing ∷ rest) a o = refl
   bracket_ends d f (unreadable ∷ rest) a o = refl
@@ -90,9 +90,9 @@ module _ {L : Type 0} where
   with_skims : (n : ℕ) → Skims n (single n) → Skims (suc n) (single_with (single n) (disjunction n))
   with_skims n h [] d m = refl
   with_skims n h (leaf_of l ∷ ts) d m = refl
-  with_skims n h (andWord ∷ ts) d m = refl
-  with_skims n h (orWord ∷ ts) d m = refl
-  with_skims n h (notWord ∷ ts) d m = h ts d (omega arith) ∙ opposed (single n ts)
+  with_skims n h (and_word ∷ ts) d m = refl
+  with_skims n h (or_word ∷ ts) d m = refl
+  with_skims n h (not_word ∷ ts) d m = h ts d (omega arith) ∙ opposed (single n ts)
     where
       opposed : (x : Found L) → after d x ≡ after d (x >>= λ f rest. found (opposite f) rest)
       opposed nothing = refl

@@ -12,7 +12,7 @@ use Rattle.expr.specs.declared.operator.PredicateOperator.TheVariants.{Eq}
 use Rattle.columns.specs.Columns.{Column}
 use Rattle.columns.specs.code.ColumnAnswers.{column_at}
 use Rattle.tokens.specs.Tokens.{Token}
-use Rattle.grammar.specs.Grammar.{Symbol, leaf_of, andWord, orWord, notWord, opening, closing, unreadable}
+use Rattle.grammar.specs.Grammar.{Symbol, leaf_of, and_word, or_word, not_word, opening, closing, unreadable}
 use Rattle.leaves.specs.Fitting.{Literal, decimal, Leaf, fits, content_of}
 use Rattle.leaves.specs.Symbols.{Read, read, or_else, after_spaces, as_operator, as_literal, of_word, symbols}
 use Rattle.leaves.specs.declared.leaf.Leaf as declared-leaf
@@ -63,9 +63,9 @@ pub record IsLeaf (cs : List Column) (s : List ℕ) (l : Leaf) (x : declared-lea
 -- r is the symbol y of the text s
 abbrev pub Is : List Column → List ℕ → Symbol Leaf → declared.Symbol → Type 0
 Is cs s (leaf_of l) r = (r.kind ≡ kind.Leaf) × IsLeaf cs s l r.leaf
-Is cs s andWord r = r.kind ≡ kind.And
-Is cs s orWord r = r.kind ≡ kind.Or
-Is cs s notWord r = r.kind ≡ kind.Not
+Is cs s and_word r = r.kind ≡ kind.And
+Is cs s or_word r = r.kind ≡ kind.Or
+Is cs s not_word r = r.kind ≡ kind.Not
 Is cs s opening r = r.kind ≡ kind.Opening
 Is cs s closing r = r.kind ≡ kind.Closing
 Is cs s unreadable r = r.kind ≡ kind.Unreadable
@@ -73,9 +73,9 @@ Is cs s unreadable r = r.kind ≡ kind.Unreadable
 -- what is said of the text after a symbol: after what is unreadable, nothing
 abbrev pub Unless : Symbol Leaf → Type 0 → Type 0
 Unless (leaf_of l) holds = holds
-Unless andWord holds = holds
-Unless orWord holds = holds
-Unless notWord holds = holds
+Unless and_word holds = holds
+Unless or_word holds = holds
+Unless not_word holds = holds
 Unless opening holds = holds
 Unless closing holds = holds
 Unless unreadable holds = Unit {0}

@@ -101,7 +101,7 @@ module _ (cs : List Column) where
       go (is_equal (compare_bytes w (ascii "and"))) (is_equal (compare_bytes w (ascii "or"))) (is_equal (compare_bytes w (ascii "not"))) (leaf_leaves n w s h)
     where
       go : (a b c : Bool) → ReadLeaves n (leaf_after cs w s)
-          → ReadLeaves n (cond a (read grammar.andWord s) (cond b (read grammar.orWord s) (cond c (read grammar.notWord s) (leaf_after cs w s))))
+          → ReadLeaves n (cond a (read grammar.and_word s) (cond b (read grammar.or_word s) (cond c (read grammar.not_word s) (leaf_after cs w s))))
       go true b c k = h
       go false true c k = h
       go false false true k = h

@@ -34,26 +34,26 @@ neighbour column o z = cond (in_type column z) (boundary.At o z) (boundary.Err O
 
 abbrev pub inclusive_boundary : PrimitiveType → Operator → ℤ → Boundary
 inclusive_boundary column (operators.none o) l = boundary.None
-inclusive_boundary column (operators.one operators.lessThan) l = neighbour column LessThanOrEq (pred_ℤ l)
-inclusive_boundary column (operators.one operators.lessThanOrEq) l = boundary.At LessThanOrEq l
-inclusive_boundary column (operators.one operators.greaterThan) l = neighbour column GreaterThanOrEq (suc_ℤ l)
-inclusive_boundary column (operators.one operators.greaterThanOrEq) l = boundary.At GreaterThanOrEq l
+inclusive_boundary column (operators.one operators.less_than) l = neighbour column LessThanOrEq (pred_ℤ l)
+inclusive_boundary column (operators.one operators.less_than_or_eq) l = boundary.At LessThanOrEq l
+inclusive_boundary column (operators.one operators.greater_than) l = neighbour column GreaterThanOrEq (suc_ℤ l)
+inclusive_boundary column (operators.one operators.greater_than_or_eq) l = boundary.At GreaterThanOrEq l
 inclusive_boundary column (operators.one operators.eq) l = boundary.At Eq l
-inclusive_boundary column (operators.one operators.notEq) l = boundary.None
+inclusive_boundary column (operators.one operators.not_eq) l = boundary.None
 inclusive_boundary column (operators.one operators.starts_with) l = boundary.At StartsWith l
-inclusive_boundary column (operators.one operators.notStartsWith) l = boundary.At NotStartsWith l
+inclusive_boundary column (operators.one operators.not_starts_with) l = boundary.At NotStartsWith l
 inclusive_boundary column (operators.many o) l = boundary.None
 
 abbrev pub strict_boundary : PrimitiveType → Operator → ℤ → Boundary
 strict_boundary column (operators.none o) l = boundary.None
-strict_boundary column (operators.one operators.lessThan) l = boundary.At LessThan l
-strict_boundary column (operators.one operators.lessThanOrEq) l = neighbour column LessThan (suc_ℤ l)
-strict_boundary column (operators.one operators.greaterThan) l = boundary.At GreaterThan l
-strict_boundary column (operators.one operators.greaterThanOrEq) l = neighbour column GreaterThan (pred_ℤ l)
+strict_boundary column (operators.one operators.less_than) l = boundary.At LessThan l
+strict_boundary column (operators.one operators.less_than_or_eq) l = neighbour column LessThan (suc_ℤ l)
+strict_boundary column (operators.one operators.greater_than) l = boundary.At GreaterThan l
+strict_boundary column (operators.one operators.greater_than_or_eq) l = neighbour column GreaterThan (pred_ℤ l)
 strict_boundary column (operators.one operators.eq) l = boundary.None
-strict_boundary column (operators.one operators.notEq) l = boundary.At NotEq l
+strict_boundary column (operators.one operators.not_eq) l = boundary.At NotEq l
 strict_boundary column (operators.one operators.starts_with) l = boundary.None
-strict_boundary column (operators.one operators.notStartsWith) l = boundary.None
+strict_boundary column (operators.one operators.not_starts_with) l = boundary.None
 strict_boundary column (operators.many o) l = boundary.None
 
 -- lifting and what older files ask of a strict answer, in one: no operator has both (`BoundaryLaws.inclusive_at`, `older_at`)

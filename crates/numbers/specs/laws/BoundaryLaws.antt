@@ -34,12 +34,12 @@ raised_literal lifts f o (ok t) same = ap ok (same lifts t)
 raised_literal lifts f o (err e) same = refl
 
 -- the rows of Inclusive
-at_most_raised : (b : Bool) (t : ℤ) → lifted_by b (some (binary operators.lessThanOrEq t)) ≡ raised_by b (some (binary operators.lessThanOrEq t))
+at_most_raised : (b : Bool) (t : ℤ) → lifted_by b (some (binary operators.less_than_or_eq t)) ≡ raised_by b (some (binary operators.less_than_or_eq t))
 at_most_raised true (pos n) = refl
 at_most_raised true (negsuc n) = refl
 at_most_raised false t = refl
 
-at_least_raised : (b : Bool) (t : ℤ) → lifted_by b (some (binary operators.greaterThanOrEq t)) ≡ raised_by b (some (binary operators.greaterThanOrEq t))
+at_least_raised : (b : Bool) (t : ℤ) → lifted_by b (some (binary operators.greater_than_or_eq t)) ≡ raised_by b (some (binary operators.greater_than_or_eq t))
 at_least_raised true t = refl
 at_least_raised false t = refl
 
@@ -52,7 +52,7 @@ starts_raised : (b : Bool) (t : ℤ) → lifted_by b (some (binary operators.sta
 starts_raised true t = refl
 starts_raised false t = refl
 
-not_starts_raised : (b : Bool) (t : ℤ) → lifted_by b (some (binary operators.notStartsWith t)) ≡ raised_by b (some (binary operators.notStartsWith t))
+not_starts_raised : (b : Bool) (t : ℤ) → lifted_by b (some (binary operators.not_starts_with t)) ≡ raised_by b (some (binary operators.not_starts_with t))
 not_starts_raised true t = refl
 not_starts_raised false t = refl
 
@@ -60,15 +60,15 @@ not_starts_raised false t = refl
 abbrev older_by : Bool → Projected (Test ℤ) → Projected (Test ℤ)
 older_by lifts q = mapped (older_if lifts) q
 
-less_raised : (b : Bool) (t : ℤ) → older_by b (some (binary operators.lessThan t)) ≡ raised_by b (some (binary operators.lessThan t))
+less_raised : (b : Bool) (t : ℤ) → older_by b (some (binary operators.less_than t)) ≡ raised_by b (some (binary operators.less_than t))
 less_raised true t = refl
 less_raised false t = refl
 
-greater_raised : (b : Bool) (t : ℤ) → older_by b (some (binary operators.greaterThan t)) ≡ raised_by b (some (binary operators.greaterThan t))
+greater_raised : (b : Bool) (t : ℤ) → older_by b (some (binary operators.greater_than t)) ≡ raised_by b (some (binary operators.greater_than t))
 greater_raised true t = refl
 greater_raised false t = refl
 
-not_equal_raised : (b : Bool) (t : ℤ) → older_by b (some (binary operators.notEq t)) ≡ raised_by b (some (binary operators.notEq t))
+not_equal_raised : (b : Bool) (t : ℤ) → older_by b (some (binary operators.not_eq t)) ≡ raised_by b (some (binary operators.not_eq t))
 not_equal_raised true t = refl
 not_equal_raised false t = refl
 
@@ -91,40 +91,40 @@ module _ (column : PrimitiveType) (transform : Transform) where
 
   pub inclusive_at : (a : Operator) (l : ℤ) → number_leaf Inclusive column transform a l ≡ at_boundary lifts T (inclusive_boundary column a l)
   inclusive_at (operators.none o) l = refl
-  inclusive_at (operators.one operators.lessThan) l =
-      raised_literal lifts lifted_by operators.lessThanOrEq (one_below column T l) at_most_raised ∙ at_neighbour lifts LessThanOrEq (pred_ℤ l)
-  inclusive_at (operators.one operators.lessThanOrEq) l = raised_literal lifts lifted_by operators.lessThanOrEq (T l) at_most_raised
-  inclusive_at (operators.one operators.greaterThan) l =
-      raised_literal lifts lifted_by operators.greaterThanOrEq (one_above column T l) at_least_raised ∙ at_neighbour lifts GreaterThanOrEq (suc_ℤ l)
-  inclusive_at (operators.one operators.greaterThanOrEq) l = raised_literal lifts lifted_by operators.greaterThanOrEq (T l) at_least_raised
+  inclusive_at (operators.one operators.less_than) l =
+      raised_literal lifts lifted_by operators.less_than_or_eq (one_below column T l) at_most_raised ∙ at_neighbour lifts LessThanOrEq (pred_ℤ l)
+  inclusive_at (operators.one operators.less_than_or_eq) l = raised_literal lifts lifted_by operators.less_than_or_eq (T l) at_most_raised
+  inclusive_at (operators.one operators.greater_than) l =
+      raised_literal lifts lifted_by operators.greater_than_or_eq (one_above column T l) at_least_raised ∙ at_neighbour lifts GreaterThanOrEq (suc_ℤ l)
+  inclusive_at (operators.one operators.greater_than_or_eq) l = raised_literal lifts lifted_by operators.greater_than_or_eq (T l) at_least_raised
   inclusive_at (operators.one operators.eq) l = raised_literal lifts lifted_by operators.eq (T l) equal_raised
-  inclusive_at (operators.one operators.notEq) l = ap ok (sym (lifted_none lifts))
+  inclusive_at (operators.one operators.not_eq) l = ap ok (sym (lifted_none lifts))
   inclusive_at (operators.one operators.starts_with) l = raised_literal lifts lifted_by operators.starts_with (T l) starts_raised
-  inclusive_at (operators.one operators.notStartsWith) l = raised_literal lifts lifted_by operators.notStartsWith (T l) not_starts_raised
+  inclusive_at (operators.one operators.not_starts_with) l = raised_literal lifts lifted_by operators.not_starts_with (T l) not_starts_raised
   inclusive_at (operators.many o) l = refl
 
   pub strict_at : (a : Operator) (l : ℤ) → number_leaf Strict column transform a l ≡ at_boundary false T (strict_boundary column a l)
   strict_at (operators.none o) l = refl
-  strict_at (operators.one operators.lessThan) l = refl
-  strict_at (operators.one operators.lessThanOrEq) l = at_neighbour false LessThan (suc_ℤ l)
-  strict_at (operators.one operators.greaterThan) l = refl
-  strict_at (operators.one operators.greaterThanOrEq) l = at_neighbour false GreaterThan (pred_ℤ l)
+  strict_at (operators.one operators.less_than) l = refl
+  strict_at (operators.one operators.less_than_or_eq) l = at_neighbour false LessThan (suc_ℤ l)
+  strict_at (operators.one operators.greater_than) l = refl
+  strict_at (operators.one operators.greater_than_or_eq) l = at_neighbour false GreaterThan (pred_ℤ l)
   strict_at (operators.one operators.eq) l = refl
-  strict_at (operators.one operators.notEq) l = refl
+  strict_at (operators.one operators.not_eq) l = refl
   strict_at (operators.one operators.starts_with) l = refl
-  strict_at (operators.one operators.notStartsWith) l = refl
+  strict_at (operators.one operators.not_starts_with) l = refl
   strict_at (operators.many o) l = refl
 
   pub older_at : (a : Operator) (l : ℤ) → number_leaf Older column transform a l ≡ at_boundary lifts T (strict_boundary column a l)
   older_at (operators.none o) l = refl
-  older_at (operators.one operators.lessThan) l = raised_literal lifts older_by operators.lessThan (T l) less_raised
-  older_at (operators.one operators.lessThanOrEq) l =
-      raised_literal lifts older_by operators.lessThan (one_above column T l) less_raised ∙ at_neighbour lifts LessThan (suc_ℤ l)
-  older_at (operators.one operators.greaterThan) l = raised_literal lifts older_by operators.greaterThan (T l) greater_raised
-  older_at (operators.one operators.greaterThanOrEq) l =
-      raised_literal lifts older_by operators.greaterThan (one_below column T l) greater_raised ∙ at_neighbour lifts GreaterThan (pred_ℤ l)
+  older_at (operators.one operators.less_than) l = raised_literal lifts older_by operators.less_than (T l) less_raised
+  older_at (operators.one operators.less_than_or_eq) l =
+      raised_literal lifts older_by operators.less_than (one_above column T l) less_raised ∙ at_neighbour lifts LessThan (suc_ℤ l)
+  older_at (operators.one operators.greater_than) l = raised_literal lifts older_by operators.greater_than (T l) greater_raised
+  older_at (operators.one operators.greater_than_or_eq) l =
+      raised_literal lifts older_by operators.greater_than (one_below column T l) greater_raised ∙ at_neighbour lifts GreaterThan (pred_ℤ l)
   older_at (operators.one operators.eq) l = refl
-  older_at (operators.one operators.notEq) l = raised_literal lifts older_by operators.notEq (T l) not_equal_raised
+  older_at (operators.one operators.not_eq) l = raised_literal lifts older_by operators.not_eq (T l) not_equal_raised
   older_at (operators.one operators.starts_with) l = refl
-  older_at (operators.one operators.notStartsWith) l = refl
+  older_at (operators.one operators.not_starts_with) l = refl
   older_at (operators.many o) l = refl

@@ -6,7 +6,7 @@ use Rattle.values.specs.laws.TestLaws.{clash}
 use Rattle.meets.specs.Tested.{held_as}
 use Rattle.meets.specs.declared.held.Held.{Held}
 use Rattle.grammar.specs.Filters.{Filter, bracket, depth, answered}
-use Rattle.grammar.specs.Grammar.{Symbol, leaf_of, andWord, orWord, notWord, opening, closing, unreadable}
+use Rattle.grammar.specs.Grammar.{Symbol, leaf_of, and_word, or_word, not_word, opening, closing, unreadable}
 use Rattle.grammar.specs.Parser.{Found, found, nothing, ◌>>=◌, closed, single, disjunction}
 use Rattle.grammar.specs.code.Skimming.{Skimmed, past, broken, operand}
 use Rattle.grammar.specs.laws.FilterLaws.{read_bracket}
@@ -22,9 +22,9 @@ use Rattle.parse.specs.declared.read.Read.{Read}
 abbrev pub is_closing : List (Symbol Leaf) → Bool
 is_closing [] = false
 is_closing (leaf_of l ∷ ts) = false
-is_closing (andWord ∷ ts) = false
-is_closing (orWord ∷ ts) = false
-is_closing (notWord ∷ ts) = false
+is_closing (and_word ∷ ts) = false
+is_closing (or_word ∷ ts) = false
+is_closing (not_word ∷ ts) = false
 is_closing (opening ∷ ts) = false
 is_closing (closing ∷ ts) = true
 is_closing (unreadable ∷ ts) = false
@@ -32,9 +32,9 @@ is_closing (unreadable ∷ ts) = false
 not_closed : (f : Filter Leaf) (ts : List (Symbol Leaf)) → is_closing ts ≡ false → closed f ts ≡ nothing
 not_closed f [] e = refl
 not_closed f (leaf_of l ∷ ts) e = refl
-not_closed f (andWord ∷ ts) e = refl
-not_closed f (orWord ∷ ts) e = refl
-not_closed f (notWord ∷ ts) e = refl
+not_closed f (and_word ∷ ts) e = refl
+not_closed f (or_word ∷ ts) e = refl
+not_closed f (not_word ∷ ts) e = refl
 not_closed f (opening ∷ ts) e = refl
 not_closed f (closing ∷ ts) e = clash refl e
 not_closed f (unreadable ∷ ts) e = refl
@@ -146,9 +146,9 @@ module _ (after : ℕ → List (Symbol Leaf)) (size : ℕ) (ask : Leaf → Res B
           shuts : (f : Filter Leaf) (ts : List (Symbol Leaf)) → skimmed (closed f ts) ≡ past (after end) → Says after size ask negate opened q (closed f ts)
           shuts f [] d = absurd (true≢false (ap is_past (sym d)))
           shuts f (leaf_of l ∷ ts) d = absurd (true≢false (ap is_past (sym d)))
-          shuts f (andWord ∷ ts) d = absurd (true≢false (ap is_past (sym d)))
-          shuts f (orWord ∷ ts) d = absurd (true≢false (ap is_past (sym d)))
-          shuts f (notWord ∷ ts) d = absurd (true≢false (ap is_past (sym d)))
+          shuts f (and_word ∷ ts) d = absurd (true≢false (ap is_past (sym d)))
+          shuts f (or_word ∷ ts) d = absurd (true≢false (ap is_past (sym d)))
+          shuts f (not_word ∷ ts) d = absurd (true≢false (ap is_past (sym d)))
           shuts f (opening ∷ ts) d = absurd (true≢false (ap is_past (sym d)))
           shuts f (closing ∷ ts) d = told f ts d
           shuts f (unreadable ∷ ts) d = absurd (true≢false (ap is_past (sym d)))

@@ -6,7 +6,7 @@ use Rattle.values.specs.laws.TestLaws.{clash}
 use Rattle.meets.specs.Tested.{held_as}
 use Rattle.meets.specs.declared.held.Held.{Held}
 use Rattle.grammar.specs.Filters.{Filter, leaf, opposite, answered}
-use Rattle.grammar.specs.Grammar.{Symbol, leaf_of, andWord, orWord, notWord, opening, closing, unreadable}
+use Rattle.grammar.specs.Grammar.{Symbol, leaf_of, and_word, or_word, not_word, opening, closing, unreadable}
 use Rattle.grammar.specs.Parser.{Found, found, nothing, ◌>>=◌, single_with, single, disjunction}
 use Rattle.grammar.specs.laws.FilterLaws.{read_leaf, read_opposite}
 use Rattle.grammar.specs.laws.ParserLaws.{single_is}
@@ -20,9 +20,9 @@ use Rattle.parse.specs.declared.read.Read.{Read}
 abbrev pub begins_filter : List (Symbol Leaf) → Bool
 begins_filter [] = false
 begins_filter (leaf_of l ∷ ts) = true
-begins_filter (andWord ∷ ts) = false
-begins_filter (orWord ∷ ts) = false
-begins_filter (notWord ∷ ts) = true
+begins_filter (and_word ∷ ts) = false
+begins_filter (or_word ∷ ts) = false
+begins_filter (not_word ∷ ts) = true
 begins_filter (opening ∷ ts) = true
 begins_filter (closing ∷ ts) = false
 begins_filter (unreadable ∷ ts) = false
@@ -50,9 +50,9 @@ module _ (after : ℕ → List (Symbol Leaf)) (size : ℕ) (ask : Leaf → Res B
       go : (n : ℕ) (ts : List (Symbol Leaf)) → begins_filter ts ≡ false → Says after size ask negate opened r (single_with (single n) (disjunction n) ts)
       go n [] b = e
       go n (leaf_of l ∷ ts) b = clash refl b
-      go n (andWord ∷ ts) b = e
-      go n (orWord ∷ ts) b = e
-      go n (notWord ∷ ts) b = clash refl b
+      go n (and_word ∷ ts) b = e
+      go n (or_word ∷ ts) b = e
+      go n (not_word ∷ ts) b = clash refl b
       go n (opening ∷ ts) b = clash refl b
       go n (closing ∷ ts) b = e
       go n (unreadable ∷ ts) b = e
@@ -87,7 +87,7 @@ module _ (after : ℕ → List (Symbol Leaf)) (size : ℕ) (ask : Leaf → Res B
           go (suc n) m = rw (single_is n (after at), goes) told
 
     -- ---- `not`
-    module _ (goes : after at ≡ notWord ∷ after start) (r : Read) where
+    module _ (goes : after at ≡ not_word ∷ after start) (r : Read) where
       opposed : (f : Filter Leaf) (rest : List (Symbol Leaf)) → Told after size ask (not negate) opened r f rest → Told after size ask negate opened r (opposite f) rest
       opposed f rest d = record {
         there = d.there;
@@ -104,7 +104,7 @@ module _ (after : ℕ → List (Symbol Leaf)) (size : ℕ) (ask : Leaf → Res B
         within = h.within;
         few = λ t. omega (arith, h.few t);
         forward = λ t. omega (arith, h.forward t);
-        shorter = λ t. let e : length (after at) ≡ length (notWord ∷ after start) = ap length goes in omega (arith, h.shorter t);
+        shorter = λ t. let e : length (after at) ≡ length (not_word ∷ after start) = ap length goes in omega (arith, h.shorter t);
         says = λ n m. go n m;
       }
         where
@@ -115,5 +115,5 @@ module _ (after : ℕ → List (Symbol Leaf)) (size : ℕ) (ask : Leaf → Res B
           go : (n : ℕ) → length (after at) < n → Says after size ask negate opened r (single n (after at))
           go zero m = absurd (omega arith)
           go (suc n) m =
-              let e : length (after at) ≡ length (notWord ∷ after start) = ap length goes in
+              let e : length (after at) ≡ length (not_word ∷ after start) = ap length goes in
               rw (single_is n (after at), goes) (turned_found (single n (after start)) (h.says n (omega arith)))

@@ -2,7 +2,7 @@
 use Rattle.std.specs.Prelude.{ℕ, List, [], ◌∷◌, ◌≡◌, refl, drop}
 use Rattle.std.proofs.Common.{ap, subst}
 use Rattle.columns.specs.Columns.{Column}
-use Rattle.grammar.specs.Grammar.{Symbol, leaf_of, andWord, orWord, notWord, opening, closing, unreadable}
+use Rattle.grammar.specs.Grammar.{Symbol, leaf_of, and_word, or_word, not_word, opening, closing, unreadable}
 use Rattle.leaves.specs.Fitting.{Leaf}
 use Rattle.leaves.specs.Symbols.{symbols}
 use Rattle.leaves.specs.code.SymbolAnswers.{IsLeaf, Begins, Symbolises}
@@ -18,9 +18,9 @@ module _ (cs : List Column) (s : List ℕ) (r : declared.Symbol) where
   abbrev pub Opens : SymbolKind → List (Symbol Leaf) → Type 0
   Opens kind.End ts = ts ≡ []
   Opens kind.Leaf ts = (l : Leaf) × (IsLeaf cs s l r.leaf × (ts ≡ leaf_of l ∷ onward))
-  Opens kind.And ts = ts ≡ andWord ∷ onward
-  Opens kind.Or ts = ts ≡ orWord ∷ onward
-  Opens kind.Not ts = ts ≡ notWord ∷ onward
+  Opens kind.And ts = ts ≡ and_word ∷ onward
+  Opens kind.Or ts = ts ≡ or_word ∷ onward
+  Opens kind.Not ts = ts ≡ not_word ∷ onward
   Opens kind.Opening ts = ts ≡ opening ∷ onward
   Opens kind.Closing ts = ts ≡ closing ∷ onward
   Opens kind.Unreadable ts = (ys : List (Symbol Leaf)) × (ts ≡ unreadable ∷ ys)
@@ -28,9 +28,9 @@ module _ (cs : List Column) (s : List ℕ) (r : declared.Symbol) where
   begun : (ts : List (Symbol Leaf)) → Begins cs s r ts → Opens r.kind ts
   begun [] b = rw b refl
   begun (leaf_of l ∷ ys) b = rw b.0.0 (l, (b.0.1, ap (λ x. leaf_of l ∷ x) b.1))
-  begun (andWord ∷ ys) b = rw b.0 (ap (λ x. andWord ∷ x) b.1)
-  begun (orWord ∷ ys) b = rw b.0 (ap (λ x. orWord ∷ x) b.1)
-  begun (notWord ∷ ys) b = rw b.0 (ap (λ x. notWord ∷ x) b.1)
+  begun (and_word ∷ ys) b = rw b.0 (ap (λ x. and_word ∷ x) b.1)
+  begun (or_word ∷ ys) b = rw b.0 (ap (λ x. or_word ∷ x) b.1)
+  begun (not_word ∷ ys) b = rw b.0 (ap (λ x. not_word ∷ x) b.1)
   begun (opening ∷ ys) b = rw b.0 (ap (λ x. opening ∷ x) b.1)
   begun (closing ∷ ys) b = rw b.0 (ap (λ x. closing ∷ x) b.1)
   begun (unreadable ∷ ys) b = rw b.0 (ys, refl)

@@ -18,7 +18,7 @@ use Rattle.transform.specs.laws.Cutting.{Cutting}
 use Rattle.expr.specs.Holds.{bytes_tests, meets}
 use Rattle.expr.specs.laws.EqualityLaws.{bytes_tells, is_same}
 use Rattle.expr.specs.laws.HoldsLaws.{opposite, meets_false, opposite_true}
-use Rattle.expr.specs.Operators.{lessThan, lessThanOrEq, greaterThan, greaterThanOrEq, eq, notEq, starts_with, notStartsWith, isIn, notIn}
+use Rattle.expr.specs.Operators.{less_than, less_than_or_eq, greater_than, greater_than_or_eq, eq, not_eq, starts_with, not_starts_with, is_in, not_in}
 use Rattle.expr.specs.Predicates.{Test, binary, set, test, literals_in}
 use Rattle.projection.specs.ByteSteps.{Step, string_starts, string_not_starts, binary_starts, binary_not_starts, inclusive_bytes, strict_bytes}
 use Rattle.projection.specs.laws.EqualLaws.{Equals, eq_equals, in_equals}
@@ -41,14 +41,14 @@ module _ {Fine : List ℕ → Type 0} {count : List ℕ → ℕ} {w : ℕ} {cut 
   -- a fine literal, under an operator
   module _ (l : List ℕ) (fine : Fine l) where
     at_most : (x : Test (List ℕ)) → ((v : List ℕ) → meets bytes_tests x v ≡ true → compare_bytes l v ≡ Less → ⊥)
-        → Returned (with_literal lessThanOrEq (T l)) (Follows x)
+        → Returned (with_literal less_than_or_eq (T l)) (Follows x)
     at_most x is =
-        returned_literal lessThanOrEq (T l) (Follows x) (λ t e v u m. rw (cut_is l t e) ((not_below _).1 (cutting.monotone v l u fine (is v m))))
+        returned_literal less_than_or_eq (T l) (Follows x) (λ t e v u m. rw (cut_is l t e) ((not_below _).1 (cutting.monotone v l u fine (is v m))))
 
     at_least : (x : Test (List ℕ)) → ((v : List ℕ) → meets bytes_tests x v ≡ true → compare_bytes v l ≡ Less → ⊥)
-        → Returned (with_literal greaterThanOrEq (T l)) (Follows x)
+        → Returned (with_literal greater_than_or_eq (T l)) (Follows x)
     at_least x is =
-        returned_literal greaterThanOrEq (T l) (Follows x) (λ t e v u m. rw (cut_is l t e) ((not_below _).1 (cutting.monotone l v fine u (is v m))))
+        returned_literal greater_than_or_eq (T l) (Follows x) (λ t e v u m. rw (cut_is l t e) ((not_below _).1 (cutting.monotone l v fine u (is v m))))
 
     -- what v begins with, it begins with once both are cut
     starts_cut : (v : List ℕ) → Fine v → order.starts_with v l ≡ true → order.starts_with (cut v) (cut l) ≡ true
@@ -78,28 +78,28 @@ module _ {Fine : List ℕ → Type 0} {count : List ℕ → ℕ} {w : ℕ} {cut 
         (λ d v u m. cutting.short l v fine u (omega arith) m)
         (λ d. binary_starts_follows)
 
-    string_not_starts_follows : Returned (string_not_starts T count w l) (Follows (binary notStartsWith l))
+    string_not_starts_follows : Returned (string_not_starts T count w l) (Follows (binary not_starts_with l))
     string_not_starts_follows =
         returned_length
         (count l)
         w
-        (some (binary notEq l))
-        (some (binary notStartsWith l))
+        (some (binary not_eq l))
+        (some (binary not_starts_with l))
         (ok none)
-        (Follows (binary notStartsWith l))
+        (Follows (binary not_starts_with l))
         (λ d v u m. ap not (refuted _ (λ z. clash (rw ((is_same bytes_tests bytes_tells (cut v) l).0 z) at (cutting.prefix v)) (not-true _ m))))
         (λ d v u m. starts_not v m)
         (λ d. tt)
 
-    binary_not_starts_follows : Returned (binary_not_starts T count w l) (Follows (binary notStartsWith l))
+    binary_not_starts_follows : Returned (binary_not_starts T count w l) (Follows (binary not_starts_with l))
     binary_not_starts_follows = go (leb (count l) w) refl
       where
-        go : (b : Bool) → leb (count l) w ≡ b → Returned (cond b (with_literal notStartsWith (T l)) (ok none)) (Follows (binary notStartsWith l))
+        go : (b : Bool) → leb (count l) w ≡ b → Returned (cond b (with_literal not_starts_with (T l)) (ok none)) (Follows (binary not_starts_with l))
         go true d =
             returned_literal
-            notStartsWith
+            not_starts_with
             (T l)
-            (Follows (binary notStartsWith l))
+            (Follows (binary not_starts_with l))
             (λ t e v u m. rw (cut_is l t e, cutting.whole l (leb-true (count l) w d)) (starts_not v m))
         go false d = tt
 
@@ -109,22 +109,22 @@ module _ {Fine : List ℕ → Type 0} {count : List ℕ → ℕ} {w : ℕ} {cut 
 
   -- ---- inclusive
   pub follows : (column : PrimitiveType) (x : Test (List ℕ)) → AllOf Fine (literals_in (test x)) → Returned (inclusive_bytes column T count w x) (Follows x)
-  follows column (binary lessThan l) fine = at_most l fine.0 (binary lessThan l) (λ v m. asymmetric bytes_order v l ((is_less_lem _).0 m))
-  follows column (binary lessThanOrEq l) fine = at_most l fine.0 (binary lessThanOrEq l) (λ v m. (not_below _).0 m)
-  follows column (binary greaterThan l) fine = at_least l fine.0 (binary greaterThan l) (λ v m. asymmetric bytes_order l v ((is_less_lem _).0 m))
-  follows column (binary greaterThanOrEq l) fine = at_least l fine.0 (binary greaterThanOrEq l) (λ v m. (not_below _).0 m)
+  follows column (binary less_than l) fine = at_most l fine.0 (binary less_than l) (λ v m. asymmetric bytes_order v l ((is_less_lem _).0 m))
+  follows column (binary less_than_or_eq l) fine = at_most l fine.0 (binary less_than_or_eq l) (λ v m. (not_below _).0 m)
+  follows column (binary greater_than l) fine = at_least l fine.0 (binary greater_than l) (λ v m. asymmetric bytes_order l v ((is_less_lem _).0 m))
+  follows column (binary greater_than_or_eq l) fine = at_least l fine.0 (binary greater_than_or_eq l) (λ v m. (not_below _).0 m)
   follows column (binary eq l) fine = equals_follow (binary eq l) (with_literal eq (T l)) (eq_equals bytes_tests bytes_tests bytes_tells bytes_tells T l)
-  follows column (binary notEq l) fine = tt
+  follows column (binary not_eq l) fine = tt
   follows column (binary starts_with l) fine =
       returned_cond (same_type column String) (string_starts T count w l) (binary_starts T l) (Follows (binary starts_with l))
       (string_starts_follows l fine.0)
       (binary_starts_follows l fine.0)
-  follows column (binary notStartsWith l) fine =
-      returned_cond (same_type column String) (string_not_starts T count w l) (binary_not_starts T count w l) (Follows (binary notStartsWith l))
+  follows column (binary not_starts_with l) fine =
+      returned_cond (same_type column String) (string_not_starts T count w l) (binary_not_starts T count w l) (Follows (binary not_starts_with l))
       (string_not_starts_follows l fine.0)
       (binary_not_starts_follows l fine.0)
-  follows column (set isIn ls) fine = equals_follow (set isIn ls) (with_each compare_bytes isIn T ls) (in_equals bytes_tests bytes_tests bytes_tells bytes_tells T ls)
-  follows column (set notIn ls) fine = tt
+  follows column (set is_in ls) fine = equals_follow (set is_in ls) (with_each compare_bytes is_in T ls) (in_equals bytes_tests bytes_tests bytes_tells bytes_tells T ls)
+  follows column (set not_in ls) fine = tt
 
   -- ---- strict: the opposite of the inclusive answer that a String has to the opposite question. A Binary's own has another operator at n = w
   abbrev as_string : Test (List ℕ) → Step
@@ -140,16 +140,16 @@ module _ {Fine : List ℕ → Type 0} {count : List ℕ → ℕ} {w : ℕ} {cut 
       returned_map opposite (as_string (opposite x)) (Follows (opposite x)) (Leads x) (leads_opposite x) (follows String (opposite x) fine)
 
   pub leads : (x : Test (List ℕ)) → AllOf Fine (literals_in (test x)) → Returned (strict_bytes T count w x) (Leads x)
-  leads (binary lessThan l) fine = rw (opposite_literal greaterThanOrEq (T l)) at (by_opposite (binary lessThan l) fine)
-  leads (binary lessThanOrEq l) fine = rw (opposite_literal greaterThanOrEq (T l)) at (by_opposite (binary lessThanOrEq l) fine)
-  leads (binary greaterThan l) fine = rw (opposite_literal lessThanOrEq (T l)) at (by_opposite (binary greaterThan l) fine)
-  leads (binary greaterThanOrEq l) fine = rw (opposite_literal lessThanOrEq (T l)) at (by_opposite (binary greaterThanOrEq l) fine)
+  leads (binary less_than l) fine = rw (opposite_literal greater_than_or_eq (T l)) at (by_opposite (binary less_than l) fine)
+  leads (binary less_than_or_eq l) fine = rw (opposite_literal greater_than_or_eq (T l)) at (by_opposite (binary less_than_or_eq l) fine)
+  leads (binary greater_than l) fine = rw (opposite_literal less_than_or_eq (T l)) at (by_opposite (binary greater_than l) fine)
+  leads (binary greater_than_or_eq l) fine = rw (opposite_literal less_than_or_eq (T l)) at (by_opposite (binary greater_than_or_eq l) fine)
   leads (binary eq l) fine = tt
-  leads (binary notEq l) fine = rw (opposite_literal eq (T l)) at (by_opposite (binary notEq l) fine)
+  leads (binary not_eq l) fine = rw (opposite_literal eq (T l)) at (by_opposite (binary not_eq l) fine)
   leads (binary starts_with l) fine =
-      rw (opposite_length (count l) w (some (binary notEq l)) (some (binary notStartsWith l)) (ok none)) at (by_opposite (binary starts_with l) fine)
-  leads (binary notStartsWith l) fine =
+      rw (opposite_length (count l) w (some (binary not_eq l)) (some (binary not_starts_with l)) (ok none)) at (by_opposite (binary starts_with l) fine)
+  leads (binary not_starts_with l) fine =
       rw (opposite_length (count l) w (some (binary eq l)) (some (binary starts_with l)) (with_literal starts_with (T l)), opposite_literal starts_with (T l))
-      at (by_opposite (binary notStartsWith l) fine)
-  leads (set isIn ls) fine = tt
-  leads (set notIn ls) fine = rw (opposite_each compare_bytes isIn T ls) at (by_opposite (set notIn ls) fine)
+      at (by_opposite (binary not_starts_with l) fine)
+  leads (set is_in ls) fine = tt
+  leads (set not_in ls) fine = rw (opposite_each compare_bytes is_in T ls) at (by_opposite (set not_in ls) fine)

@@ -9,7 +9,7 @@ use Rattle.values.specs.Ascending.{ascending}
 use Rattle.values.specs.Outcomes.{Res, ok}
 use Rattle.values.specs.laws.OutcomeLaws.{ok_inj}
 use Rattle.expr.specs.Holds.{Tests, meets}
-use Rattle.expr.specs.Operators.{eq, isIn}
+use Rattle.expr.specs.Operators.{eq, is_in}
 use Rattle.expr.specs.Predicates.{Test, binary, set, test, literals_in}
 use Rattle.expr.specs.laws.EqualityLaws.{Tells, is_same, is_member, is_ascending_member}
 use Rattle.projection.specs.laws.StepLaws.{Returned, returned_literal, returned_each, each_into, Literal, each_from}
@@ -32,9 +32,9 @@ module _ {A B : Type 0} (rows : Tests A) (parts : Tests B) (tells : Tells rows) 
         literals = λ k m. (l, e ∙ ap ok (sym (eq_of_singleton m)), here refl);
       })
 
-  pub in_equals : (ls : List A) → Returned (with_each parts.compare isIn T ls) (Equals (set isIn ls))
+  pub in_equals : (ls : List A) → Returned (with_each parts.compare is_in T ls) (Equals (set is_in ls))
   in_equals ls =
-      returned_each parts.compare isIn T ls (Equals (set isIn ls)) (λ ts e. record {
+      returned_each parts.compare is_in T ls (Equals (set is_in ls)) (λ ts e. record {
         own = λ k m. (is_member rows tells k ls).1 m;
         kept = λ v p h m. (is_ascending_member parts tells_parts p ts).1 (each_into T ls e v p h ((is_member rows tells v ls).0 m));
         needed = λ p m. each_from T ls e p ((is_ascending_member parts tells_parts p ts).0 m);

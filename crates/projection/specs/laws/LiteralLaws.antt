@@ -16,7 +16,7 @@ use Rattle.values.specs.declared.order.Ordering.{Ordering}
 use Rattle.values.specs.declared.transform.Transform.{Transform}
 use Rattle.values.specs.declared.transform.Transform.TheVariants.{Identity}
 use Rattle.partition.specs.code.PartitionAnswers.{InType}
-use Rattle.expr.specs.Operators.{Binary, SetOperator, lessThan, lessThanOrEq, greaterThan, greaterThanOrEq, eq, notEq, starts_with, notStartsWith, isIn, notIn}
+use Rattle.expr.specs.Operators.{Binary, SetOperator, less_than, less_than_or_eq, greater_than, greater_than_or_eq, eq, not_eq, starts_with, not_starts_with, is_in, not_in}
 use Rattle.expr.specs.Predicates.{Test, binary, set, Predicate, unary, test, literals_in}
 use Rattle.expr.specs.laws.HoldsLaws.{opposite, opposite_literals}
 use Rattle.projection.specs.laws.OppositeLaws.{older_is}
@@ -97,21 +97,21 @@ module _ (h : ℤ → Type 0) (next : (z : ℤ) → z <ℤ pos 0 → h z → h (
   nexts_count (negsuc n ∷ ts) = omega (arith, nexts_count ts)
 
   pub lift_lands : (n : ℕ) (q : Test ℤ) → Landed h n (test q) → Landed h (2 * n) (test (lift q))
-  lift_lands n (binary lessThan t) k = record { all = k.all; count = omega (arith, k.count) }
-  lift_lands n (binary lessThanOrEq (pos m)) k = record { all = k.all; count = omega (arith, k.count) }
-  lift_lands n (binary lessThanOrEq (negsuc m)) k = record { all = (next (negsuc m) (omega ints) k.all.0, tt); count = omega (arith, k.count) }
-  lift_lands n (binary greaterThan t) k = record { all = k.all; count = omega (arith, k.count) }
-  lift_lands n (binary greaterThanOrEq t) k = record { all = k.all; count = omega (arith, k.count) }
+  lift_lands n (binary less_than t) k = record { all = k.all; count = omega (arith, k.count) }
+  lift_lands n (binary less_than_or_eq (pos m)) k = record { all = k.all; count = omega (arith, k.count) }
+  lift_lands n (binary less_than_or_eq (negsuc m)) k = record { all = (next (negsuc m) (omega ints) k.all.0, tt); count = omega (arith, k.count) }
+  lift_lands n (binary greater_than t) k = record { all = k.all; count = omega (arith, k.count) }
+  lift_lands n (binary greater_than_or_eq t) k = record { all = k.all; count = omega (arith, k.count) }
   lift_lands n (binary eq (pos m)) k = record { all = k.all; count = omega (arith, k.count) }
   lift_lands n (binary eq (negsuc m)) k = record { all = nexts_all (negsuc m ∷ []) k.all; count = omega (arith, k.count) }
-  lift_lands n (binary notEq t) k = record { all = k.all; count = omega (arith, k.count) }
+  lift_lands n (binary not_eq t) k = record { all = k.all; count = omega (arith, k.count) }
   lift_lands n (binary starts_with t) k = record { all = k.all; count = omega (arith, k.count) }
-  lift_lands n (binary notStartsWith t) k = record { all = k.all; count = omega (arith, k.count) }
-  lift_lands n (set isIn ts) k = record {
+  lift_lands n (binary not_starts_with t) k = record { all = k.all; count = omega (arith, k.count) }
+  lift_lands n (set is_in ts) k = record {
     all = all_ascending compare_numbers h (with_nexts ts) (nexts_all ts k.all);
     count = omega (arith, length_ascending compare_numbers (with_nexts ts), nexts_count ts, k.count);
   }
-  lift_lands n (set notIn ts) k = record { all = k.all; count = omega (arith, k.count) }
+  lift_lands n (set not_in ts) k = record { all = k.all; count = omega (arith, k.count) }
 
   same_literals : (n : ℕ) (x y : Test ℤ) → literals_in (test y) ≡ literals_in (test x) → Landed h n (test x) → Landed h n (test y)
   same_literals n x y e k = record { all = rw e k.all; count = omega (arith, ap length e, k.count) }
@@ -134,29 +134,29 @@ module _ (column : PrimitiveType) (T : ℤ → Res ℤ) (h : ℤ → Type 0) (gi
 
   pub inclusive_numbers : (y : Test ℤ) → AllOf (InType column) (literals_in (test y))
       → Returned (inclusive_number column T y) (λ q. Landed h (length (literals_in (test y))) (test q))
-  inclusive_numbers (binary lessThan l) x = gated lessThanOrEq (pred_ℤ l)
-  inclusive_numbers (binary lessThanOrEq l) x = number lessThanOrEq l x.0
-  inclusive_numbers (binary greaterThan l) x = gated greaterThanOrEq (suc_ℤ l)
-  inclusive_numbers (binary greaterThanOrEq l) x = number greaterThanOrEq l x.0
+  inclusive_numbers (binary less_than l) x = gated less_than_or_eq (pred_ℤ l)
+  inclusive_numbers (binary less_than_or_eq l) x = number less_than_or_eq l x.0
+  inclusive_numbers (binary greater_than l) x = gated greater_than_or_eq (suc_ℤ l)
+  inclusive_numbers (binary greater_than_or_eq l) x = number greater_than_or_eq l x.0
   inclusive_numbers (binary eq l) x = number eq l x.0
-  inclusive_numbers (binary notEq l) x = tt
+  inclusive_numbers (binary not_eq l) x = tt
   inclusive_numbers (binary starts_with l) x = number starts_with l x.0
-  inclusive_numbers (binary notStartsWith l) x = number notStartsWith l x.0
-  inclusive_numbers (set isIn ls) x = numbers isIn ls x
-  inclusive_numbers (set notIn ls) x = tt
+  inclusive_numbers (binary not_starts_with l) x = number not_starts_with l x.0
+  inclusive_numbers (set is_in ls) x = numbers is_in ls x
+  inclusive_numbers (set not_in ls) x = tt
 
   pub strict_numbers : (y : Test ℤ) → AllOf (InType column) (literals_in (test y))
       → Returned (strict_number column T y) (λ q. Landed h (length (literals_in (test y))) (test q))
-  strict_numbers (binary lessThan l) x = number lessThan l x.0
-  strict_numbers (binary lessThanOrEq l) x = gated lessThan (suc_ℤ l)
-  strict_numbers (binary greaterThan l) x = number greaterThan l x.0
-  strict_numbers (binary greaterThanOrEq l) x = gated greaterThan (pred_ℤ l)
+  strict_numbers (binary less_than l) x = number less_than l x.0
+  strict_numbers (binary less_than_or_eq l) x = gated less_than (suc_ℤ l)
+  strict_numbers (binary greater_than l) x = number greater_than l x.0
+  strict_numbers (binary greater_than_or_eq l) x = gated greater_than (pred_ℤ l)
   strict_numbers (binary eq l) x = tt
-  strict_numbers (binary notEq l) x = number notEq l x.0
+  strict_numbers (binary not_eq l) x = number not_eq l x.0
   strict_numbers (binary starts_with l) x = tt
-  strict_numbers (binary notStartsWith l) x = tt
-  strict_numbers (set isIn ls) x = tt
-  strict_numbers (set notIn ls) x = numbers notIn ls x
+  strict_numbers (binary not_starts_with l) x = tt
+  strict_numbers (set is_in ls) x = tt
+  strict_numbers (set not_in ls) x = numbers not_in ls x
 
 -- ---- strings and binaries: a literal stays, or T(L) is put for it
 module _ (T : List ℕ → Res (List ℕ)) (count : List ℕ → ℕ) (w : ℕ) (g h : List ℕ → Type 0)
@@ -177,32 +177,32 @@ module _ (T : List ℕ → Res (List ℕ)) (count : List ℕ → ℕ) (w : ℕ) 
 
   pub inclusive_bytes_lem : (column : PrimitiveType) (y : Test (List ℕ)) → AllOf g (literals_in (test y))
       → Returned (inclusive_bytes column T count w y) (λ q. Landed h (length (literals_in (test y))) (test q))
-  inclusive_bytes_lem column (binary lessThan l) x = changed lessThanOrEq l x.0
-  inclusive_bytes_lem column (binary lessThanOrEq l) x = changed lessThanOrEq l x.0
-  inclusive_bytes_lem column (binary greaterThan l) x = changed greaterThanOrEq l x.0
-  inclusive_bytes_lem column (binary greaterThanOrEq l) x = changed greaterThanOrEq l x.0
+  inclusive_bytes_lem column (binary less_than l) x = changed less_than_or_eq l x.0
+  inclusive_bytes_lem column (binary less_than_or_eq l) x = changed less_than_or_eq l x.0
+  inclusive_bytes_lem column (binary greater_than l) x = changed greater_than_or_eq l x.0
+  inclusive_bytes_lem column (binary greater_than_or_eq l) x = changed greater_than_or_eq l x.0
   inclusive_bytes_lem column (binary eq l) x = changed eq l x.0
-  inclusive_bytes_lem column (binary notEq l) x = tt
+  inclusive_bytes_lem column (binary not_eq l) x = tt
   inclusive_bytes_lem column (binary starts_with l) x =
       returned_cond (same_type column String) (string_starts T count w l) (binary_starts T l) (λ q. Landed h 1 (test q))
       (starts eq starts_with l (with_literal starts_with (T l)) x.0 (changed starts_with l x.0))
       (changed starts_with l x.0)
-  inclusive_bytes_lem column (binary notStartsWith l) x =
+  inclusive_bytes_lem column (binary not_starts_with l) x =
       returned_cond (same_type column String) (string_not_starts T count w l) (binary_not_starts T count w l) (λ q. Landed h 1 (test q))
-      (starts notEq notStartsWith l (ok none) x.0 tt)
-      (returned_cond (leb (count l) w) (with_literal notStartsWith (T l)) (ok none) (λ q. Landed h 1 (test q)) (changed notStartsWith l x.0) tt)
-  inclusive_bytes_lem column (set isIn ls) x = byte_sets isIn ls x
-  inclusive_bytes_lem column (set notIn ls) x = tt
+      (starts not_eq not_starts_with l (ok none) x.0 tt)
+      (returned_cond (leb (count l) w) (with_literal not_starts_with (T l)) (ok none) (λ q. Landed h 1 (test q)) (changed not_starts_with l x.0) tt)
+  inclusive_bytes_lem column (set is_in ls) x = byte_sets is_in ls x
+  inclusive_bytes_lem column (set not_in ls) x = tt
 
   pub strict_bytes_lem : (y : Test (List ℕ)) → AllOf g (literals_in (test y))
       → Returned (strict_bytes T count w y) (λ q. Landed h (length (literals_in (test y))) (test q))
-  strict_bytes_lem (binary lessThan l) x = changed lessThan l x.0
-  strict_bytes_lem (binary lessThanOrEq l) x = changed lessThan l x.0
-  strict_bytes_lem (binary greaterThan l) x = changed greaterThan l x.0
-  strict_bytes_lem (binary greaterThanOrEq l) x = changed greaterThan l x.0
+  strict_bytes_lem (binary less_than l) x = changed less_than l x.0
+  strict_bytes_lem (binary less_than_or_eq l) x = changed less_than l x.0
+  strict_bytes_lem (binary greater_than l) x = changed greater_than l x.0
+  strict_bytes_lem (binary greater_than_or_eq l) x = changed greater_than l x.0
   strict_bytes_lem (binary eq l) x = tt
-  strict_bytes_lem (binary notEq l) x = changed notEq l x.0
+  strict_bytes_lem (binary not_eq l) x = changed not_eq l x.0
   strict_bytes_lem (binary starts_with l) x = starts eq starts_with l (ok none) x.0 tt
-  strict_bytes_lem (binary notStartsWith l) x = starts notEq notStartsWith l (with_literal notStartsWith (T l)) x.0 (changed notStartsWith l x.0)
-  strict_bytes_lem (set isIn ls) x = tt
-  strict_bytes_lem (set notIn ls) x = byte_sets notIn ls x
+  strict_bytes_lem (binary not_starts_with l) x = starts not_eq not_starts_with l (with_literal not_starts_with (T l)) x.0 (changed not_starts_with l x.0)
+  strict_bytes_lem (set is_in ls) x = tt
+  strict_bytes_lem (set not_in ls) x = byte_sets not_in ls x

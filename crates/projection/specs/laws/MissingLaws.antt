@@ -10,7 +10,7 @@ use Rattle.values.specs.declared.datatypes.PrimitiveType.TheVariants.{String}
 use Rattle.values.specs.declared.order.Ordering.{Ordering}
 use Rattle.values.specs.declared.transform.Transform.{Transform}
 use Rattle.expr.specs.Holds.{missing_meets}
-use Rattle.expr.specs.Operators.{Binary, SetOperator, one, many, lessThan, lessThanOrEq, greaterThan, greaterThanOrEq, eq, notEq, starts_with, notStartsWith, isIn, notIn}
+use Rattle.expr.specs.Operators.{Binary, SetOperator, one, many, less_than, less_than_or_eq, greater_than, greater_than_or_eq, eq, not_eq, starts_with, not_starts_with, is_in, not_in}
 use Rattle.expr.specs.Predicates.{Test, binary, set, test, by_arity_in}
 use Rattle.projection.specs.ByteSteps.{Step, by_length, string_starts, string_not_starts, binary_starts, binary_not_starts, inclusive_bytes, strict_bytes}
 use Rattle.projection.specs.Lifting.{lift, lifted, older, older_if}
@@ -40,60 +40,60 @@ module _ {A B : Type 0} (x : Test A) where
 -- ---- numbers
 module _ (column : PrimitiveType) (T : ℤ → Res ℤ) where
   inclusive_missing : (x : Test ℤ) → Returned (inclusive_number column T x) (λ q. SameMissing x q)
-  inclusive_missing (binary lessThan l) = one_missing (binary lessThan l) lessThanOrEq (one_below column T l) refl
-  inclusive_missing (binary lessThanOrEq l) = one_missing (binary lessThanOrEq l) lessThanOrEq (T l) refl
-  inclusive_missing (binary greaterThan l) = one_missing (binary greaterThan l) greaterThanOrEq (one_above column T l) refl
-  inclusive_missing (binary greaterThanOrEq l) = one_missing (binary greaterThanOrEq l) greaterThanOrEq (T l) refl
+  inclusive_missing (binary less_than l) = one_missing (binary less_than l) less_than_or_eq (one_below column T l) refl
+  inclusive_missing (binary less_than_or_eq l) = one_missing (binary less_than_or_eq l) less_than_or_eq (T l) refl
+  inclusive_missing (binary greater_than l) = one_missing (binary greater_than l) greater_than_or_eq (one_above column T l) refl
+  inclusive_missing (binary greater_than_or_eq l) = one_missing (binary greater_than_or_eq l) greater_than_or_eq (T l) refl
   inclusive_missing (binary eq l) = one_missing (binary eq l) eq (T l) refl
-  inclusive_missing (binary notEq l) = tt
+  inclusive_missing (binary not_eq l) = tt
   inclusive_missing (binary starts_with l) = one_missing (binary starts_with l) starts_with (T l) refl
-  inclusive_missing (binary notStartsWith l) = one_missing (binary notStartsWith l) notStartsWith (T l) refl
-  inclusive_missing (set isIn ls) = each_missing (set isIn ls) compare_numbers isIn T ls refl
-  inclusive_missing (set notIn ls) = tt
+  inclusive_missing (binary not_starts_with l) = one_missing (binary not_starts_with l) not_starts_with (T l) refl
+  inclusive_missing (set is_in ls) = each_missing (set is_in ls) compare_numbers is_in T ls refl
+  inclusive_missing (set not_in ls) = tt
 
   strict_missing : (x : Test ℤ) → Returned (strict_number column T x) (λ q. SameMissing x q)
-  strict_missing (binary lessThan l) = one_missing (binary lessThan l) lessThan (T l) refl
-  strict_missing (binary lessThanOrEq l) = one_missing (binary lessThanOrEq l) lessThan (one_above column T l) refl
-  strict_missing (binary greaterThan l) = one_missing (binary greaterThan l) greaterThan (T l) refl
-  strict_missing (binary greaterThanOrEq l) = one_missing (binary greaterThanOrEq l) greaterThan (one_below column T l) refl
+  strict_missing (binary less_than l) = one_missing (binary less_than l) less_than (T l) refl
+  strict_missing (binary less_than_or_eq l) = one_missing (binary less_than_or_eq l) less_than (one_above column T l) refl
+  strict_missing (binary greater_than l) = one_missing (binary greater_than l) greater_than (T l) refl
+  strict_missing (binary greater_than_or_eq l) = one_missing (binary greater_than_or_eq l) greater_than (one_below column T l) refl
   strict_missing (binary eq l) = tt
-  strict_missing (binary notEq l) = one_missing (binary notEq l) notEq (T l) refl
+  strict_missing (binary not_eq l) = one_missing (binary not_eq l) not_eq (T l) refl
   strict_missing (binary starts_with l) = tt
-  strict_missing (binary notStartsWith l) = tt
-  strict_missing (set isIn ls) = tt
-  strict_missing (set notIn ls) = each_missing (set notIn ls) compare_numbers notIn T ls refl
+  strict_missing (binary not_starts_with l) = tt
+  strict_missing (set is_in ls) = tt
+  strict_missing (set not_in ls) = each_missing (set not_in ls) compare_numbers not_in T ls refl
 
 lift_missing : (q : Test ℤ) → SameMissing q (lift q)
-lift_missing (binary lessThan t) = refl
-lift_missing (binary lessThanOrEq (pos n)) = refl
-lift_missing (binary lessThanOrEq (negsuc n)) = refl
-lift_missing (binary greaterThan t) = refl
-lift_missing (binary greaterThanOrEq t) = refl
+lift_missing (binary less_than t) = refl
+lift_missing (binary less_than_or_eq (pos n)) = refl
+lift_missing (binary less_than_or_eq (negsuc n)) = refl
+lift_missing (binary greater_than t) = refl
+lift_missing (binary greater_than_or_eq t) = refl
 lift_missing (binary eq (pos n)) = refl
 lift_missing (binary eq (negsuc n)) = refl
-lift_missing (binary notEq t) = refl
+lift_missing (binary not_eq t) = refl
 lift_missing (binary starts_with t) = refl
-lift_missing (binary notStartsWith t) = refl
-lift_missing (set isIn ts) = refl
-lift_missing (set notIn ts) = refl
+lift_missing (binary not_starts_with t) = refl
+lift_missing (set is_in ts) = refl
+lift_missing (set not_in ts) = refl
 
 lifted_missing : (lifts : Bool) (x q : Test ℤ) → SameMissing x q → SameMissing x (lift_if lifts q)
 lifted_missing true x q e = lift_missing q ∙ e
 lifted_missing false x q e = e
 
 older_missing : (q : Test ℤ) → SameMissing q (older q)
-older_missing (binary lessThan t) = refl
-older_missing (binary lessThanOrEq t) = refl
-older_missing (binary greaterThan (pos n)) = refl
-older_missing (binary greaterThan (negsuc n)) = refl
-older_missing (binary greaterThanOrEq t) = refl
+older_missing (binary less_than t) = refl
+older_missing (binary less_than_or_eq t) = refl
+older_missing (binary greater_than (pos n)) = refl
+older_missing (binary greater_than (negsuc n)) = refl
+older_missing (binary greater_than_or_eq t) = refl
 older_missing (binary eq t) = refl
-older_missing (binary notEq (pos n)) = refl
-older_missing (binary notEq (negsuc n)) = refl
+older_missing (binary not_eq (pos n)) = refl
+older_missing (binary not_eq (negsuc n)) = refl
 older_missing (binary starts_with t) = refl
-older_missing (binary notStartsWith t) = refl
-older_missing (set isIn ts) = refl
-older_missing (set notIn ts) = refl
+older_missing (binary not_starts_with t) = refl
+older_missing (set is_in ts) = refl
+older_missing (set not_in ts) = refl
 
 older_if_missing : (lifts : Bool) (x q : Test ℤ) → SameMissing x q → SameMissing x (older_if lifts q)
 older_if_missing true x q e = older_missing q ∙ e
@@ -131,35 +131,35 @@ module _ (T : List ℕ → Res (List ℕ)) (count : List ℕ → ℕ) (w : ℕ) 
       returned_length (count l) w (some (binary whole l)) (some (binary short l)) long (λ q. SameMissing x q) (λ d. a) (λ d. b) (λ d. c)
 
   inclusive_bytes_missing : (column : PrimitiveType) (x : Test (List ℕ)) → Returned (inclusive_bytes column T count w x) (λ q. SameMissing x q)
-  inclusive_bytes_missing column (binary lessThan l) = one_missing (binary lessThan l) lessThanOrEq (T l) refl
-  inclusive_bytes_missing column (binary lessThanOrEq l) = cut_missing lessThanOrEq l
-  inclusive_bytes_missing column (binary greaterThan l) = one_missing (binary greaterThan l) greaterThanOrEq (T l) refl
-  inclusive_bytes_missing column (binary greaterThanOrEq l) = cut_missing greaterThanOrEq l
+  inclusive_bytes_missing column (binary less_than l) = one_missing (binary less_than l) less_than_or_eq (T l) refl
+  inclusive_bytes_missing column (binary less_than_or_eq l) = cut_missing less_than_or_eq l
+  inclusive_bytes_missing column (binary greater_than l) = one_missing (binary greater_than l) greater_than_or_eq (T l) refl
+  inclusive_bytes_missing column (binary greater_than_or_eq l) = cut_missing greater_than_or_eq l
   inclusive_bytes_missing column (binary eq l) = cut_missing eq l
-  inclusive_bytes_missing column (binary notEq l) = tt
+  inclusive_bytes_missing column (binary not_eq l) = tt
   inclusive_bytes_missing column (binary starts_with l) =
       returned_cond (same_type column String) (string_starts T count w l) (binary_starts T l) (λ q. SameMissing (binary starts_with l) q)
       (length_missing (binary starts_with l) l eq starts_with (with_literal starts_with (T l)) refl refl (cut_missing starts_with l))
       (cut_missing starts_with l)
-  inclusive_bytes_missing column (binary notStartsWith l) =
-      returned_cond (same_type column String) (string_not_starts T count w l) (binary_not_starts T count w l) (λ q. SameMissing (binary notStartsWith l) q)
-      (length_missing (binary notStartsWith l) l notEq notStartsWith (ok none) refl refl tt)
-      (returned_cond (leb (count l) w) (with_literal notStartsWith (T l)) (ok none) (λ q. SameMissing (binary notStartsWith l) q) (cut_missing notStartsWith l) tt)
-  inclusive_bytes_missing column (set isIn ls) = each_missing (set isIn ls) compare_bytes isIn T ls refl
-  inclusive_bytes_missing column (set notIn ls) = tt
+  inclusive_bytes_missing column (binary not_starts_with l) =
+      returned_cond (same_type column String) (string_not_starts T count w l) (binary_not_starts T count w l) (λ q. SameMissing (binary not_starts_with l) q)
+      (length_missing (binary not_starts_with l) l not_eq not_starts_with (ok none) refl refl tt)
+      (returned_cond (leb (count l) w) (with_literal not_starts_with (T l)) (ok none) (λ q. SameMissing (binary not_starts_with l) q) (cut_missing not_starts_with l) tt)
+  inclusive_bytes_missing column (set is_in ls) = each_missing (set is_in ls) compare_bytes is_in T ls refl
+  inclusive_bytes_missing column (set not_in ls) = tt
 
   strict_bytes_missing : (x : Test (List ℕ)) → Returned (strict_bytes T count w x) (λ q. SameMissing x q)
-  strict_bytes_missing (binary lessThan l) = cut_missing lessThan l
-  strict_bytes_missing (binary lessThanOrEq l) = one_missing (binary lessThanOrEq l) lessThan (T l) refl
-  strict_bytes_missing (binary greaterThan l) = cut_missing greaterThan l
-  strict_bytes_missing (binary greaterThanOrEq l) = one_missing (binary greaterThanOrEq l) greaterThan (T l) refl
+  strict_bytes_missing (binary less_than l) = cut_missing less_than l
+  strict_bytes_missing (binary less_than_or_eq l) = one_missing (binary less_than_or_eq l) less_than (T l) refl
+  strict_bytes_missing (binary greater_than l) = cut_missing greater_than l
+  strict_bytes_missing (binary greater_than_or_eq l) = one_missing (binary greater_than_or_eq l) greater_than (T l) refl
   strict_bytes_missing (binary eq l) = tt
-  strict_bytes_missing (binary notEq l) = cut_missing notEq l
+  strict_bytes_missing (binary not_eq l) = cut_missing not_eq l
   strict_bytes_missing (binary starts_with l) = length_missing (binary starts_with l) l eq starts_with (ok none) refl refl tt
-  strict_bytes_missing (binary notStartsWith l) =
-      length_missing (binary notStartsWith l) l notEq notStartsWith (with_literal notStartsWith (T l)) refl refl (cut_missing notStartsWith l)
-  strict_bytes_missing (set isIn ls) = tt
-  strict_bytes_missing (set notIn ls) = each_missing (set notIn ls) compare_bytes notIn T ls refl
+  strict_bytes_missing (binary not_starts_with l) =
+      length_missing (binary not_starts_with l) l not_eq not_starts_with (with_literal not_starts_with (T l)) refl refl (cut_missing not_starts_with l)
+  strict_bytes_missing (set is_in ls) = tt
+  strict_bytes_missing (set not_in ls) = each_missing (set not_in ls) compare_bytes not_in T ls refl
 
 pub bytes_step_missing : (question : Question) (column : PrimitiveType) (transform : Transform) (x : Test (List ℕ))
     → Returned (bytes_step column transform question x) (λ q. SameMissing x q)

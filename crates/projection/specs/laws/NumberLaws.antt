@@ -21,7 +21,7 @@ use Rattle.partition.specs.code.PartitionAnswers.{InType}
 use Rattle.expr.specs.Holds.{number_tests, meets}
 use Rattle.expr.specs.laws.EqualityLaws.{number_tells}
 use Rattle.expr.specs.laws.HoldsLaws.{opposite, opposite_literals, meets_false, opposite_true}
-use Rattle.expr.specs.Operators.{lessThan, lessThanOrEq, greaterThan, greaterThanOrEq, eq, notEq, starts_with, notStartsWith, isIn, notIn}
+use Rattle.expr.specs.Operators.{less_than, less_than_or_eq, greater_than, greater_than_or_eq, eq, not_eq, starts_with, not_starts_with, is_in, not_in}
 use Rattle.expr.specs.Predicates.{Test, binary, set, test, literals_in}
 use Rattle.projection.specs.Lifting.{lift}
 use Rattle.projection.specs.laws.LiftingLaws.{less_is, greater_is, Above, lift_if, returned_lifted, lift_keeps, Rises, at_most_rises, at_least_rises, equal_rises, within_rises, lift_back}
@@ -101,22 +101,22 @@ module _ (column : PrimitiveType) (T : ℤ → Res ℤ) (g : Test ℤ → Type 0
   turned x r = returned_map opposite (inclusive_number column T (opposite x)) (λ q. g (opposite q)) g (λ q k. k) r
 
   pub strict_by : (x : Test ℤ) → Returned (inclusive_number column T (opposite x)) (λ q. g (opposite q)) → Returned (strict_number column T x) g
-  strict_by (binary lessThan l) r = rw (opposite_literal greaterThanOrEq (T l)) at (turned (binary lessThan l) r)
-  strict_by (binary lessThanOrEq l) r = rw (opposite_literal greaterThanOrEq (one_above column T l)) at (turned (binary lessThanOrEq l) r)
-  strict_by (binary greaterThan l) r = rw (opposite_literal lessThanOrEq (T l)) at (turned (binary greaterThan l) r)
-  strict_by (binary greaterThanOrEq l) r = rw (opposite_literal lessThanOrEq (one_below column T l)) at (turned (binary greaterThanOrEq l) r)
+  strict_by (binary less_than l) r = rw (opposite_literal greater_than_or_eq (T l)) at (turned (binary less_than l) r)
+  strict_by (binary less_than_or_eq l) r = rw (opposite_literal greater_than_or_eq (one_above column T l)) at (turned (binary less_than_or_eq l) r)
+  strict_by (binary greater_than l) r = rw (opposite_literal less_than_or_eq (T l)) at (turned (binary greater_than l) r)
+  strict_by (binary greater_than_or_eq l) r = rw (opposite_literal less_than_or_eq (one_below column T l)) at (turned (binary greater_than_or_eq l) r)
   strict_by (binary eq l) r = tt
-  strict_by (binary notEq l) r = rw (opposite_literal eq (T l)) at (turned (binary notEq l) r)
+  strict_by (binary not_eq l) r = rw (opposite_literal eq (T l)) at (turned (binary not_eq l) r)
   strict_by (binary starts_with l) r = tt
-  strict_by (binary notStartsWith l) r = tt
-  strict_by (set isIn ls) r = tt
-  strict_by (set notIn ls) r = rw (opposite_each compare_numbers isIn T ls) at (turned (set notIn ls) r)
+  strict_by (binary not_starts_with l) r = tt
+  strict_by (set is_in ls) r = tt
+  strict_by (set not_in ls) r = rw (opposite_each compare_numbers is_in T ls) at (turned (set not_in ls) r)
 
 module _ (column : PrimitiveType) (T : ℤ → Res ℤ) (mono : (v w p q : ℤ) → T v ≡ ok p → T w ≡ ok q → v ≤ℤ w → p ≤ℤ q) where
-  at_most : (k t : ℤ) (x : Test ℤ) → Has column T k t → ((v : ℤ) → (meets number_tests x v ≡ true) ↔ (v ≤ℤ k)) → Exact column T x (binary lessThanOrEq t)
-  at_most k t x e is = bound column T (λ a b. a ≤ℤ b) upwards mono k t e x (binary lessThanOrEq t) is (λ p. is_at_most p t) (at_most_rises t) refl
+  at_most : (k t : ℤ) (x : Test ℤ) → Has column T k t → ((v : ℤ) → (meets number_tests x v ≡ true) ↔ (v ≤ℤ k)) → Exact column T x (binary less_than_or_eq t)
+  at_most k t x e is = bound column T (λ a b. a ≤ℤ b) upwards mono k t e x (binary less_than_or_eq t) is (λ p. is_at_most p t) (at_most_rises t) refl
 
-  at_least : (k t : ℤ) (x : Test ℤ) → Has column T k t → ((v : ℤ) → (meets number_tests x v ≡ true) ↔ (k ≤ℤ v)) → Exact column T x (binary greaterThanOrEq t)
+  at_least : (k t : ℤ) (x : Test ℤ) → Has column T k t → ((v : ℤ) → (meets number_tests x v ≡ true) ↔ (k ≤ℤ v)) → Exact column T x (binary greater_than_or_eq t)
   at_least k t x e is =
       bound
       column
@@ -128,7 +128,7 @@ module _ (column : PrimitiveType) (T : ℤ → Res ℤ) (mono : (v w p q : ℤ) 
       t
       e
       x
-      (binary greaterThanOrEq t)
+      (binary greater_than_or_eq t)
       is
       (λ p. is_at_most t p)
       (at_least_rises t)
@@ -150,30 +150,30 @@ module _ (column : PrimitiveType) (T : ℤ → Res ℤ) (mono : (v w p q : ℤ) 
       from l = (all_isin (InType column) l.0 (literals_in (test x)) fine l.2, l.1)
 
   pub inclusive_exact : (x : Test ℤ) → AllOf (InType column) (literals_in (test x)) → Returned (inclusive_number column T x) (Exact column T x)
-  inclusive_exact (binary lessThan l) fine =
+  inclusive_exact (binary less_than l) fine =
       returned_literal
-      lessThanOrEq
+      less_than_or_eq
       (one_below column T l)
-      (Exact column T (binary lessThan l))
-      (λ t e. at_most (pred_ℤ l) t (binary lessThan l) (passed (in_type column (pred_ℤ l)) Overflow _ e) (λ v. less_is v l))
-  inclusive_exact (binary lessThanOrEq l) fine =
+      (Exact column T (binary less_than l))
+      (λ t e. at_most (pred_ℤ l) t (binary less_than l) (passed (in_type column (pred_ℤ l)) Overflow _ e) (λ v. less_is v l))
+  inclusive_exact (binary less_than_or_eq l) fine =
       returned_literal
-      lessThanOrEq
+      less_than_or_eq
       (T l)
-      (Exact column T (binary lessThanOrEq l))
-      (λ t e. at_most l t (binary lessThanOrEq l) (fine.0, e) (λ v. is_at_most v l))
-  inclusive_exact (binary greaterThan l) fine =
+      (Exact column T (binary less_than_or_eq l))
+      (λ t e. at_most l t (binary less_than_or_eq l) (fine.0, e) (λ v. is_at_most v l))
+  inclusive_exact (binary greater_than l) fine =
       returned_literal
-      greaterThanOrEq
+      greater_than_or_eq
       (one_above column T l)
-      (Exact column T (binary greaterThan l))
-      (λ t e. at_least (suc_ℤ l) t (binary greaterThan l) (passed (in_type column (suc_ℤ l)) Overflow _ e) (λ v. greater_is v l))
-  inclusive_exact (binary greaterThanOrEq l) fine =
+      (Exact column T (binary greater_than l))
+      (λ t e. at_least (suc_ℤ l) t (binary greater_than l) (passed (in_type column (suc_ℤ l)) Overflow _ e) (λ v. greater_is v l))
+  inclusive_exact (binary greater_than_or_eq l) fine =
       returned_literal
-      greaterThanOrEq
+      greater_than_or_eq
       (T l)
-      (Exact column T (binary greaterThanOrEq l))
-      (λ t e. at_least l t (binary greaterThanOrEq l) (fine.0, e) (λ v. is_at_most l v))
+      (Exact column T (binary greater_than_or_eq l))
+      (λ t e. at_least l t (binary greater_than_or_eq l) (fine.0, e) (λ v. is_at_most l v))
   inclusive_exact (binary eq l) fine =
       equals_exact
       (binary eq l)
@@ -181,7 +181,7 @@ module _ (column : PrimitiveType) (T : ℤ → Res ℤ) (mono : (v w p q : ℤ) 
       fine
       (eq_equals number_tests number_tests number_tells number_tells T l)
       (returned_literal eq (T l) Rises (λ t e. equal_rises t))
-  inclusive_exact (binary notEq l) fine = tt
+  inclusive_exact (binary not_eq l) fine = tt
   inclusive_exact (binary starts_with l) fine =
       returned_literal starts_with (T l) (Exact column T (binary starts_with l)) (λ t e. record {
         kept = λ v p h m. m;
@@ -189,21 +189,21 @@ module _ (column : PrimitiveType) (T : ℤ → Res ℤ) (mono : (v w p q : ℤ) 
         rises = λ z g m. m;
         literals = λ k m. (l, (fine.0, e ∙ ap ok (sym (eq_of_singleton m))));
       })
-  inclusive_exact (binary notStartsWith l) fine =
-      returned_literal notStartsWith (T l) (Exact column T (binary notStartsWith l)) (λ t e. record {
+  inclusive_exact (binary not_starts_with l) fine =
+      returned_literal not_starts_with (T l) (Exact column T (binary not_starts_with l)) (λ t e. record {
         kept = λ v p h m. m;
         needed = λ v p h m. (v, h, m);
         rises = λ z g m. m;
         literals = λ k m. (l, (fine.0, e ∙ ap ok (sym (eq_of_singleton m))));
       })
-  inclusive_exact (set isIn ls) fine =
+  inclusive_exact (set is_in ls) fine =
       equals_exact
-      (set isIn ls)
-      (with_each compare_numbers isIn T ls)
+      (set is_in ls)
+      (with_each compare_numbers is_in T ls)
       fine
       (in_equals number_tests number_tests number_tells number_tells T ls)
-      (returned_each compare_numbers isIn T ls Rises (λ ts e. within_rises (ascending compare_numbers ts)))
-  inclusive_exact (set notIn ls) fine = tt
+      (returned_each compare_numbers is_in T ls Rises (λ ts e. within_rises (ascending compare_numbers ts)))
+  inclusive_exact (set not_in ls) fine = tt
 
   -- ---- lifted
   lift_exact : (x q : Test ℤ) → Exact column T x q → LiftedExact column T true x (lift q)

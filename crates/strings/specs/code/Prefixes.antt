@@ -52,5 +52,5 @@ abbrev pub not_starts_leaf : Question → PrimitiveType → ℕ → Operator →
 not_starts_leaf question column width whole l =
     by_length (length_of column l) width
     (one_test whole l)
-    (some (binary operators.notStartsWith l))
-    (asked question (ok none) (truncated_leaf column width (operators.one operators.notStartsWith) l))
+    (some (binary operators.not_starts_with l))
+    (asked question (ok none) (truncated_leaf column width (operators.one operators.not_starts_with) l))

@@ -11,14 +11,14 @@ use Rattle.projection.specs.declared.question.Question.{Question}
 use Rattle.projection.specs.declared.question.Question.TheVariants.{Inclusive, Strict}
 use Rattle.sheet.specs.Records.{record_size}
 use Rattle.sheet.specs.Sheets.{Sheet, sheet}
-use Rattle.answers.specs.Answers.{answer_of, answerNumber}
+use Rattle.answers.specs.Answers.{answer_of, answer_number}
 use Rattle.api.specs.Routines.{project_sheet}
 use Rattle.values.specs.Characters.{ascii}
 use Rattle.text.specs.Text.{answer_line, digits}
 use Rattle.text.specs.laws.TextLaws.{line_few}
 use Rattle.text.specs.Program.{answer_in, printed, output_size}
 
-number_digits : (r : Res (Projected (List ℕ))) → answerNumber (answer_of r) < 10 ^ 2
+number_digits : (r : Res (Projected (List ℕ))) → answer_number (answer_of r) < 10 ^ 2
 number_digits (ok (some answer)) = omega arith
 number_digits (ok none) = omega arith
 number_digits (err e) = (error_range e).1
@@ -28,8 +28,8 @@ unfolding printed
 printed_fits input =
     let inclusive = project_sheet Inclusive input in
     let strict = project_sheet Strict input in
-    let first = line_few (ascii "inclusive") (answerNumber (answer_of inclusive)) (answer_in inclusive) (number_digits inclusive) in
-    let second = line_few (ascii "strict") (answerNumber (answer_of strict)) (answer_in strict) (number_digits strict) in
+    let first = line_few (ascii "inclusive") (answer_number (answer_of inclusive)) (answer_in inclusive) (number_digits inclusive) in
+    let second = line_few (ascii "strict") (answer_number (answer_of strict)) (answer_in strict) (number_digits strict) in
     rw length-append (omega (arith, first, second))
 
 -- ---- 01: "Over" so many bytes "is 3": 02, #108, "`weighpick` reads up to 8,320"

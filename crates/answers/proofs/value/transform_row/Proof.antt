@@ -7,7 +7,7 @@ use Rattle.values.specs.laws.TestLaws.{called_no, called_yes}
 use Rattle.values.specs.Types.{content_size, same_type}
 use Rattle.values.specs.declared.datatypes.PrimitiveType.TheVariants.{String}
 use Rattle.partition.specs.ResultType.{result_type}
-use Rattle.answers.specs.Answers.{asResult}
+use Rattle.answers.specs.Answers.{as_result}
 use Rattle.sheet.specs.code.Contents.{row_utf8}
 use Rattle.answers.specs.code.Leaves.{NumberColumn, BytesColumn}
 use Rattle.answers.specs.laws.SettledLaws.{settled_refused, settled_as}
@@ -41,14 +41,14 @@ returns : tie.Need-returns
 returns c =
     let a = c.before.before.before.before.args in
     let no = called_no _ _ c.before.value-encoded.ensures c.if1.true in
-    settled_refused (ap asResult (row_not_utf8 a.column a.transform (row a.present a.content.now) no))
+    settled_refused (ap as_result (row_not_utf8 a.column a.transform (row a.present a.content.now) no))
 
 returns-2 : tie.Need-returns-2
 returns-2 c =
     let t = c.before.before.before in
     let a = t.before.before.before.before.before.args in
     let none = type_told _ (err _) t.result-type.ensures c.before.e.given.1 in
-    settled_refused (ap asResult (row_no_type a.column a.transform (row a.present a.content.now) (utf8-fine t.before) none))
+    settled_refused (ap as_result (row_no_type a.column a.transform (row a.present a.content.now) (utf8-fine t.before) none))
 
 transform-bytes-row-requires : tie.Need-transform-bytes-row-requires
 transform-bytes-row-requires c κs = (bytes c.before, (start_of c.before.before.before).requires)

@@ -1,7 +1,7 @@
 -- `literal::transform_literal` meets its contract: the buffer, then type, transform and width, then the value. Assumes nothing.
 use borrow.Author.Rules.{rules}
 use Rattle.values.specs.Outcomes.{ok, err}
-use Rattle.answers.specs.Answers.{asResult}
+use Rattle.answers.specs.Answers.{as_result}
 use Rattle.values.specs.laws.TypeResultLaws.{type_told, transform_told}
 use Rattle.api.specs.Routines.{transform_value, value_buffer}
 use Rattle.api.proofs.Buffers.{too_small, settled_in}
@@ -12,7 +12,7 @@ use Rattle.api.proofs.literal.transform_literal.Tie as tie
 returns : tie.Need-returns
 returns c =
     let a = c.before.before.before.args in
-    too_small value_buffer (asResult (transform_value a.column_type a.transform a.width a.value.now)) c.if1.true
+    too_small value_buffer (as_result (transform_value a.column_type a.transform a.width a.value.now)) c.if1.true
 
 returns-2 : tie.Need-returns-2
 returns-2 c =
@@ -20,7 +20,7 @@ returns-2 c =
     let else = call.before in
     let a = else.before.before.before.args in
     let v = a.value.now in
-    settled_in value_buffer (asResult (transform_value a.column_type a.transform a.width v)) else.if1.false
+    settled_in value_buffer (as_result (transform_value a.column_type a.transform a.width v)) else.if1.false
     (no_type a.column_type a.transform a.width v (type_told _ (err _) call.from-number.ensures c.before.e.given.1))
 
 returns-3 : tie.Need-returns-3
@@ -31,7 +31,7 @@ returns-3 c =
     let else = call.before in
     let a = else.before.before.before.args in
     let v = a.value.now in
-    settled_in value_buffer (asResult (transform_value a.column_type a.transform a.width v)) else.if1.false
+    settled_in value_buffer (as_result (transform_value a.column_type a.transform a.width v)) else.if1.false
     (no_transform
     a.column_type
     a.transform
@@ -50,7 +50,7 @@ returns-4 c =
     let else = call.before in
     let a = else.before.before.before.args in
     let v = a.value.now in
-    settled_in value_buffer (asResult (transform_value a.column_type a.transform a.width v)) else.if1.false
+    settled_in value_buffer (as_result (transform_value a.column_type a.transform a.width v)) else.if1.false
     (value_answered
     a.column_type
     a.transform

@@ -10,7 +10,7 @@ use Rattle.values.specs.Words.{le_number, signed}
 use Rattle.values.specs.laws.SignedLaws as ints
 use Rattle.values.specs.laws.TestLaws.{called_no, called_yes}
 use Rattle.expr.specs.Holds.{number_tests, meets}
-use Rattle.expr.specs.Operators.{isIn}
+use Rattle.expr.specs.Operators.{is_in}
 use Rattle.expr.specs.Predicates.{set}
 use Rattle.meets.specs.Tested.{held_as}
 use Rattle.ask.proofs.NumberAnswerArms.{missing_two, in_two, not_in_two}
@@ -35,7 +35,7 @@ number-in-requires c κs = c.before.before.requires.0 (there c)
 
 -- whether it is one of the two
 told : (c : tie.After-is-either) → let a = c.before.before.before.before.args in
-    c.is-either.result ≡ meets number_tests (set isIn (a.t ∷ suc_ℤ a.t ∷ [])) (signed (length a.content.now) (le_number a.content.now))
+    c.is-either.result ≡ meets number_tests (set is_in (a.t ∷ suc_ℤ a.t ∷ [])) (signed (length a.content.now) (le_number a.content.now))
 told c =
     let n = c.before.number_in in
     let s = c.before.before.before.before in

@@ -1,5 +1,4 @@
 -- `expr::test::number_meets` meets its contract: each arm is the test of its operator. Assumes nothing.
-use borrow.Author.Rules.{rules}
 use Rattle.expr.proofs.NumberTests.{number-tests}
 use Rattle.expr.proofs.test.number_meets.Goals as goal
 

@@ -7,7 +7,7 @@ use borrow.Author.Rules.{rules}
 use Rattle.values.specs.Characters.{ascii}
 use Rattle.values.specs.Order.{compare_bytes, is_equal}
 use Rattle.values.specs.Words.{field}
-use Rattle.leaves.proofs.Given.{and_word, or_word, not_word, column_word, other_word}
+use Rattle.leaves.proofs.Given.{and_word_lem, or_word_lem, not_word, column_word, other_word}
 use Rattle.leaves.proofs.symbol.word_at.Statement.{statement}
 use Rattle.leaves.proofs.symbol.word_at.Tie as tie
 
@@ -38,14 +38,14 @@ returns : tie.Need-returns
 returns c =
     let a = c.before.before in
     let s = start a in
-    rw c.plain.ensures (and_word _ _ s.args.from s.args.to _ s.pre.1.1.1 (sym a.is_IsWord.ensures ∙ c.before.if1.true))
+    rw c.plain.ensures (and_word_lem _ _ s.args.from s.args.to _ s.pre.1.1.1 (sym a.is_IsWord.ensures ∙ c.before.if1.true))
 
 returns-2 : tie.Need-returns-2
 returns-2 c =
     let o = c.before.before in
     let f = o.before.before in
     let s = start f.before in
-    rw c.plain2.ensures (or_word _ _ s.args.from s.args.to _ s.pre.1.1.1 (not_and f) (sym o.is-word2.ensures ∙ c.before.if2.true))
+    rw c.plain2.ensures (or_word_lem _ _ s.args.from s.args.to _ s.pre.1.1.1 (not_and f) (sym o.is-word2.ensures ∙ c.before.if2.true))
 
 returns-3 : tie.Need-returns-3
 returns-3 c =

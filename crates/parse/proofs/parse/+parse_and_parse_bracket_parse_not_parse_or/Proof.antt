@@ -10,7 +10,7 @@ use borrow.Fn.PlainCycle.{Measures, is, falls, and}
 use Rattle.grammar.specs.Parser.{conjunction, disjunction}
 use Rattle.leaves.specs.declared.symbol.SymbolKind.TheVariants as kind
 use Rattle.parse.proofs.Ahead.{not_and, not_or, not_closing, no_filter_kind}
-use Rattle.parse.proofs.Loops.{ready_at, ready_within, and_word, or_word, Chaining, first_read, last_read, past_within, past_onward}
+use Rattle.parse.proofs.Loops.{ready_at, ready_within, and_word_lem, or_word_lem, Chaining, first_read, last_read, past_within, past_onward}
 use Rattle.parse.proofs.Loops.{right_missed, few_leaves, falls as chain-falls, next_read}
 use Rattle.parse.proofs.Singles.{Nots, no_nots, symbol_onward, one_not, a_leaf, leaf_there, bracket_there, nothing_there}
 use Rattle.parse.proofs.Singles.{deep_missed, deep_passed, bracket_missed, closed_within, bracket_closed}
@@ -76,13 +76,13 @@ parse_or_below t = and 3 parse-or-kinds.ps (falls 3 parse-or-kinds.ps ◌<◌ μ
 -- ---- the loops
 
 abbrev parse_and-Inv-loop : parse-and-lts.invariant-loop
-parse_and-Inv-loop asked c count v s at negate opened left₀ left = Chaining (and_word asked c v s negate) opened at left
+parse_and-Inv-loop asked c count v s at negate opened left₀ left = Chaining (and_word_lem asked c v s negate) opened at left
 
 abbrev parse_and_μ_loop : parse-and-lts.decreases-loop
 parse_and_μ_loop asked c count v s at negate opened left₀ left = length s - left.next
 
 abbrev parse_or-Inv-loop : parse-or-lts.invariant-loop
-parse_or-Inv-loop asked c count v s at negate opened left₀ left = Chaining (or_word asked c v s negate) opened at left
+parse_or-Inv-loop asked c count v s at negate opened left₀ left = Chaining (or_word_lem asked c v s negate) opened at left
 
 abbrev parse_or_μ_loop : parse-or-lts.decreases-loop
 parse_or_μ_loop asked c count v s at negate opened left₀ left = length s - left.next
@@ -100,21 +100,21 @@ unfolding conjunction disjunction
     (λ t. parse-and-lts.spec (parse_not_below t, parse-not.Post, join-reads-reads.Asked, join-reads-reads.Learnt)
     (parse_and_at t) parse-and.Post parse_and-Inv-loop parse_and_μ_loop
     (λ c κs. let b = c.before.before.before in (omega (arith, b.requires.0), b.requires.1))
-    (λ c. first_read (and_word _ _ _ _ _) _ c.parse-not.ensures)
+    (λ c. first_read (and_word_lem _ _ _ _ _) _ c.parse-not.ensures)
     (search rules)
-    (λ c. last_read (and_word _ _ _ _ _) _ c.before.loop.invariant (not_and c.before.loop.left.ahead c.match.keys2))
+    (λ c. last_read (and_word_lem _ _ _ _ _) _ c.before.loop.invariant (not_and c.before.loop.left.ahead c.match.keys2))
     (λ c κs. let l = c.before.before in let b = l.before.before.before.before.before in let e = c.enum_told.given.1 in
-    let on = past_onward (and_word _ _ _ _ _) _ l.loop.invariant e in let in_text = past_within (and_word _ _ _ _ _) _ l.loop.invariant e in
+    let on = past_onward (and_word_lem _ _ _ _ _) _ l.loop.invariant e in let in_text = past_within (and_word_lem _ _ _ _ _) _ l.loop.invariant e in
     (omega (arith, b.requires.0), ready_at b.requires.1 _ in_text))
     (λ c. let k = c.before.before in let l = k.before.before.before in
-    right_missed (and_word _ _ _ _ _) _ l.loop.invariant k.before.enum_told.given.1 k.parse-not2.ensures (not-true _ c.if1.true))
+    right_missed (and_word_lem _ _ _ _ _) _ l.loop.invariant k.before.enum_told.given.1 k.parse-not2.ensures (not-true _ c.if1.true))
     (λ c κs. let k = c.before.before in let l = k.before.before.before in let b = l.before.before.before.before.before in
-    let few = few_leaves (and_word _ _ _ _ _) _ l.loop.invariant k.before.enum_told.given.1 k.parse-not2.ensures (not-false _ c.if1.false) in omega arith)
+    let few = few_leaves (and_word_lem _ _ _ _ _) _ l.loop.invariant k.before.enum_told.given.1 k.parse-not2.ensures (not-false _ c.if1.false) in omega arith)
     (λ c. let e = c.before in let k = e.before.before in let l = k.before.before.before in
     rw c.join-reads.ensures
-    (chain-falls (and_word _ _ _ _ _) _ l.loop.invariant k.before.enum_told.given.1 k.parse-not2.ensures (not-false _ e.if1.false)))
+    (chain-falls (and_word_lem _ _ _ _ _) _ l.loop.invariant k.before.enum_told.given.1 k.parse-not2.ensures (not-false _ e.if1.false)))
     (λ c. let e = c.before in let k = e.before.before in let l = k.before.before.before in
-    rw c.join-reads.ensures (next_read (and_word _ _ _ _ _) _ l.loop.invariant k.before.enum_told.given.1 k.parse-not2.ensures (not-false _ e.if1.false))))
+    rw c.join-reads.ensures (next_read (and_word_lem _ _ _ _ _) _ l.loop.invariant k.before.enum_told.given.1 k.parse-not2.ensures (not-false _ e.if1.false))))
     (λ t. parse-bracket-lts.spec
     (skim-reads.Asked, skim-reads.Learnt, no-filter-reads.Asked, no-filter-reads.Learnt, filter-to-reads.Asked, filter-to-reads.Learnt, parse_or_below t, parse-or.Post)
     (parse_bracket_at t) parse-bracket.Post
@@ -174,18 +174,18 @@ unfolding conjunction disjunction
     λ t. parse-or-lts.spec (parse_and_below t, parse-and.Post, join-reads-reads.Asked, join-reads-reads.Learnt)
     (parse_or_at t) parse-or.Post parse_or-Inv-loop parse_or_μ_loop
     (λ c κs. let b = c.before.before.before in (omega (arith, b.requires.0), b.requires.1))
-    (λ c. first_read (or_word _ _ _ _ _) _ c.parse-and.ensures)
+    (λ c. first_read (or_word_lem _ _ _ _ _) _ c.parse-and.ensures)
     (search rules)
-    (λ c. last_read (or_word _ _ _ _ _) _ c.before.loop.invariant (not_or c.before.loop.left.ahead c.match.keys2))
+    (λ c. last_read (or_word_lem _ _ _ _ _) _ c.before.loop.invariant (not_or c.before.loop.left.ahead c.match.keys2))
     (λ c κs. let l = c.before.before in let b = l.before.before.before.before.before in let e = c.enum_told.given.1 in
-    let on = past_onward (or_word _ _ _ _ _) _ l.loop.invariant e in let in_text = past_within (or_word _ _ _ _ _) _ l.loop.invariant e in
+    let on = past_onward (or_word_lem _ _ _ _ _) _ l.loop.invariant e in let in_text = past_within (or_word_lem _ _ _ _ _) _ l.loop.invariant e in
     (omega (arith, b.requires.0), ready_at b.requires.1 _ in_text))
     (λ c. let k = c.before.before in let l = k.before.before.before in
-    right_missed (or_word _ _ _ _ _) _ l.loop.invariant k.before.enum_told.given.1 k.parse-and2.ensures (not-true _ c.if1.true))
+    right_missed (or_word_lem _ _ _ _ _) _ l.loop.invariant k.before.enum_told.given.1 k.parse-and2.ensures (not-true _ c.if1.true))
     (λ c κs. let k = c.before.before in let l = k.before.before.before in let b = l.before.before.before.before.before in
-    let few = few_leaves (or_word _ _ _ _ _) _ l.loop.invariant k.before.enum_told.given.1 k.parse-and2.ensures (not-false _ c.if1.false) in omega arith)
+    let few = few_leaves (or_word_lem _ _ _ _ _) _ l.loop.invariant k.before.enum_told.given.1 k.parse-and2.ensures (not-false _ c.if1.false) in omega arith)
     (λ c. let e = c.before in let k = e.before.before in let l = k.before.before.before in
     rw c.join-reads.ensures
-    (chain-falls (or_word _ _ _ _ _) _ l.loop.invariant k.before.enum_told.given.1 k.parse-and2.ensures (not-false _ e.if1.false)))
+    (chain-falls (or_word_lem _ _ _ _ _) _ l.loop.invariant k.before.enum_told.given.1 k.parse-and2.ensures (not-false _ e.if1.false)))
     (λ c. let e = c.before in let k = e.before.before in let l = k.before.before.before in
-    rw c.join-reads.ensures (next_read (or_word _ _ _ _ _) _ l.loop.invariant k.before.enum_told.given.1 k.parse-and2.ensures (not-false _ e.if1.false)))
+    rw c.join-reads.ensures (next_read (or_word_lem _ _ _ _ _) _ l.loop.invariant k.before.enum_told.given.1 k.parse-and2.ensures (not-false _ e.if1.false)))

@@ -7,7 +7,7 @@ use mathlib.Core.Path.{◌≡◌, refl, sym, ◌∙◌}
 use lib.ListN.{length, drop, get_or}
 use borrow.Author.Rules.{rules}
 use Rattle.values.specs.laws.TestLaws.{called}
-use Rattle.expr.specs.Operators.{lessThan, lessThanOrEq, greaterThan, greaterThanOrEq, eq}
+use Rattle.expr.specs.Operators.{less_than, less_than_or_eq, greater_than, greater_than_or_eq, eq}
 use Rattle.tokens.specs.Tokens.{token}
 use Rattle.tokens.specs.code.TokenAnswers.{Takes}
 use Rattle.tokens.specs.laws.TokenLaws.{no_token}
@@ -69,10 +69,10 @@ returns-6 c =
     rw c.plain2.ensures (known o (code ")") c.before.match.keys4 (closing_taken _ _ _ (after o) (within o)))
 
 returns-7 : tie.Need-returns-7
-returns-7 c = known c.before.before (code "<") c.before.match.keys5 (c.longest-at.ensures lessThanOrEq lessThan refl refl)
+returns-7 c = known c.before.before (code "<") c.before.match.keys5 (c.longest-at.ensures less_than_or_eq less_than refl refl)
 
 returns-8 : tie.Need-returns-8
-returns-8 c = known c.before.before (code ">") c.before.match.keys6 (c.longest-at2.ensures greaterThanOrEq greaterThan refl refl)
+returns-8 c = known c.before.before (code ">") c.before.match.keys6 (c.longest-at2.ensures greater_than_or_eq greater_than refl refl)
 
 returns-9 : tie.Need-returns-9
 returns-9 c =
