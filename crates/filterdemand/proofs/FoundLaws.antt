@@ -20,7 +20,7 @@ use Rattle.grammar.specs.Filters.{Filter, leaves, depth}
 use Rattle.grammar.specs.Grammar as grammar
 use Rattle.grammar.specs.Grammar.{Symbol, Single, a_leaf, a_not, in_brackets, Conjunction, one_single, and_single, Disjunction, one_conjunction, or_conjunction}
 use Rattle.grammar.specs.Parser.{Found, found, nothing, disjunction}
-use Rattle.grammar.specs.laws.ParserLaws.{disjunction_sound}
+use Rattle.grammar.proofs.ParserLaws.{disjunction_sound}
 use Rattle.leaves.specs.Fitting.{Literal, Leaf, leaf_of}
 use Rattle.leaves.specs.Symbols.{as_operator, as_literal, Read, read, or_else, on_taken, after_spaces, leaf_after, of_token}
 use Rattle.leaves.specs.Symbols.{symbol, first_then, symbols_from, symbols_within, symbols}

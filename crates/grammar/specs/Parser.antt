@@ -77,14 +77,9 @@ conjunction n = chain is_and both (single n)
 unfoldable pub disjunction : {L : Type 0} → ℕ → Parser L
 disjunction n = chain is_or either (conjunction n)
 
--- what it finds: of a whole row of symbols what the grammar derives, and nothing else (`ParserLaws.parser_means`)
+-- what it finds: of a whole row of symbols what the grammar derives, and nothing else (`proofs/ParserLaws`, `parser_means`)
 abbrev pub ParserMeans : Type 1
 ParserMeans = (L : Type 0) (s : List (Symbol L)) (f : Filter L) → (disjunction (suc (length s)) s ≡ found f []) ↔ Derives s f
-
--- a or b and not c is a or (b and (not c)); 1, 2 and 3 stand for leaves
-not_and_or : disjunction {L = ℕ} 9 (leaf_of 1 ∷ or_word ∷ leaf_of 2 ∷ and_word ∷ not_word ∷ leaf_of 3 ∷ []) ≡ found (either (leaf 1) (both (leaf 2) (opposite (leaf 3)))) []
-unfolding disjunction conjunction single
-not_and_or = refl
 
 -- a or b or c is (a or b) or c
 from_the_left : disjunction {L = ℕ} 9 (leaf_of 1 ∷ or_word ∷ leaf_of 2 ∷ or_word ∷ leaf_of 3 ∷ []) ≡ found (either (either (leaf 1) (leaf 2)) (leaf 3)) []

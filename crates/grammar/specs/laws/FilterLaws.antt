@@ -1,11 +1,8 @@
 -- What a reader in one pass makes of a filter: how many leaves it has, what stands under so many nots, and what that is answered. Assumes nothing.
-use Rattle.std.specs.Prelude.{ℕ, ◌+◌, ◌≤◌, Bool, true, false, not, cond, ◌&&◌, ◌||◌, List, ◌≡◌, refl, length}
+use Rattle.std.specs.Prelude.{◌≤◌, Bool, true, false, not, cond, ◌&&◌, ◌||◌, ◌≡◌, refl}
 use Rattle.std.proofs.Common.{arith}
 use Rattle.values.specs.Outcomes.{Res}
 use Rattle.grammar.specs.Filters.{Filter, leaf, either, both, opposite, bracket, leaves, Turned, one, any, all, straight, turned, joined, answered}
-use Rattle.grammar.specs.Grammar.{Symbol}
-use Rattle.grammar.specs.Parser.{found, disjunction}
-use Rattle.grammar.specs.laws.ParserLaws.{disjunction_sound, disjunction_takes}
 
 -- ---- leaves
 pub leaves_some : {L : Type 0} (f : Filter L) → 1 ≤ leaves f
@@ -14,11 +11,6 @@ leaves_some (either f g) = omega (arith, leaves_some f)
 leaves_some (both f g) = omega (arith, leaves_some f)
 leaves_some (opposite f) = leaves_some f
 leaves_some (bracket f) = leaves_some f
-
--- one symbol was taken for each leaf, at least
-pub found_leaves : {L : Type 0} (n : ℕ) (ts : List (Symbol L)) (f : Filter L) (rest : List (Symbol L)) → disjunction n ts ≡ found f rest
-    → leaves f + length rest ≤ length ts
-found_leaves n ts f rest e = (disjunction_takes (disjunction_sound n ts f rest e)).for_leaves
 
 -- ---- not
 module _ {L : Type 0} (turn : L → L) where

@@ -10,8 +10,8 @@ use Rattle.grammar.specs.Grammar.{Symbol, leaf_of, and_word, or_word, not_word, 
 use Rattle.grammar.specs.Parser.{Found, found, nothing, ◌>>=◌, closed, single, disjunction}
 use Rattle.grammar.specs.code.Skimming.{Skimmed, past, broken, operand}
 use Rattle.grammar.specs.laws.FilterLaws.{read_bracket}
-use Rattle.grammar.specs.laws.ParserLaws.{single_is}
-use Rattle.grammar.specs.laws.SkimmingLaws.{skimmed, skimming}
+use Rattle.grammar.proofs.ParserLaws.{single_is}
+use Rattle.grammar.proofs.SkimmingLaws.{skimmed, skimming}
 use Rattle.leaves.specs.Fitting.{Leaf}
 use Rattle.leaves.specs.declared.symbol.SymbolKind.{SymbolKind}
 use Rattle.parse.specs.FilterText.{bracket_limit, turn}

@@ -10,7 +10,7 @@ use Rattle.grammar.specs.Filters.{Filter, leaves, depth}
 use Rattle.grammar.specs.Grammar.{Symbol, Single, a_leaf, a_not, in_brackets, Derives}
 use Rattle.grammar.specs.Grammar.{Conjunction, one_single, and_single, Disjunction, one_conjunction, or_conjunction}
 use Rattle.grammar.specs.Parser.{Found, found, nothing, disjunction}
-use Rattle.grammar.specs.laws.ParserLaws.{parser_means}
+use Rattle.grammar.proofs.ParserLaws.{parser_means}
 use Rattle.leaves.specs.Fitting.{Leaf}
 use Rattle.leaves.specs.Symbols.{symbols}
 use Rattle.leaves.specs.TextIs.{TextIs, is_read}

@@ -9,7 +9,7 @@ use Rattle.grammar.specs.Filters.{Filter, leaf, opposite, answered}
 use Rattle.grammar.specs.Grammar.{Symbol, leaf_of, and_word, or_word, not_word, opening, closing, unreadable}
 use Rattle.grammar.specs.Parser.{Found, found, nothing, ◌>>=◌, single_with, single, disjunction}
 use Rattle.grammar.specs.laws.FilterLaws.{read_leaf, read_opposite}
-use Rattle.grammar.specs.laws.ParserLaws.{single_is}
+use Rattle.grammar.proofs.ParserLaws.{single_is}
 use Rattle.leaves.specs.Fitting.{Leaf}
 use Rattle.leaves.specs.declared.symbol.SymbolKind.{SymbolKind}
 use Rattle.parse.specs.FilterText.{bracket_limit, turn}

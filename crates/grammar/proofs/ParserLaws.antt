@@ -3,7 +3,7 @@ use Prim.Native.Nat.{ℕ, zero, suc, ◌+◌, ◌≤◌, ◌<◌}
 use Rattle.std.proofs.Common.{arith, ◌∙◌}
 use Rattle.std.specs.Prelude.{false, List, [], ◌∷◌, ◌≡◌, length}
 use Rattle.std.proofs.Math.Path.{refl}
-use Rattle.grammar.specs.Filters.{Filter, either, both, bracket, leaves}
+use Rattle.grammar.specs.Filters.{Filter, leaf, either, both, opposite, bracket, leaves}
 use Rattle.grammar.specs.Grammar.{Symbol, leaf_of, and_word, or_word, not_word, opening, closing, unreadable}
 use Rattle.grammar.specs.Grammar.{Single, a_leaf, a_not, in_brackets}
 use Rattle.grammar.specs.Grammar.{Conjunction, one_single, and_single, Disjunction, one_conjunction, or_conjunction}
@@ -143,3 +143,13 @@ parser_means L s f = (
   disjunction_sound (suc (length s)) s f [],
   λ d. reached_last is_or either _ s f [] (disjunction_found d refl (suc (length s)) (omega arith)) refl,
 )
+
+-- one symbol was taken for each leaf, at least
+pub found_leaves : {L : Type 0} (n : ℕ) (ts : List (Symbol L)) (f : Filter L) (rest : List (Symbol L)) → disjunction n ts ≡ found f rest
+    → leaves f + length rest ≤ length ts
+found_leaves n ts f rest e = (disjunction_takes (disjunction_sound n ts f rest e)).for_leaves
+
+-- a or b and not c is a or (b and (not c)); 1, 2 and 3 stand for leaves
+not_and_or : disjunction {L = ℕ} 9 (leaf_of 1 ∷ or_word ∷ leaf_of 2 ∷ and_word ∷ not_word ∷ leaf_of 3 ∷ []) ≡ found (either (leaf 1) (both (leaf 2) (opposite (leaf 3)))) []
+unfolding disjunction conjunction single
+not_and_or = refl

@@ -7,7 +7,7 @@ use Rattle.grammar.specs.Grammar.{Symbol, leaf_of, and_word, or_word, not_word, 
 use Rattle.grammar.specs.Parser.{Found, found, nothing, ◌>>=◌, Parser, is_and, is_or, more, chain, closed, single_with, single, conjunction, disjunction}
 use Rattle.grammar.specs.code.Skimming.{Skimmed, past, broken, closes, operand, between}
 use Rattle.grammar.specs.laws.ChainLaws.{only_and, only_or, begins, chain_ends}
-use Rattle.grammar.specs.laws.ParserLaws.{Shortens, single_is, single_shorter, conjunction_shorter}
+use Rattle.grammar.proofs.ParserLaws.{Shortens, single_is, single_shorter, conjunction_shorter}
 
 -- from where a filter ended
 abbrev pub onward : {L : Type 0} → (List (Symbol L) → Skimmed L) → Found L → Skimmed L

@@ -1,0 +1,3 @@
+-- What the parser finds, and what is read past; these laws rest on `specs/Parser`.
+pub mod ParserLaws
+pub mod SkimmingLaws
