@@ -27,7 +27,7 @@ transform_value type transform width v = do
   row ← value (layout h.column) v
   transformed_row h.column h.transform row
 
--- ---- the lent buffer. 01: "result buffer under" `sheet_buffer` "bytes"; 02, #108: "that for one value 128", a record
+-- ---- the lent buffer. 01: "result buffer under 8,256 bytes (64 for one value)": `sheet_buffer`, and a record
 abbrev pub value_buffer : ℕ
 value_buffer = record_size
 

@@ -5,15 +5,12 @@ use Rattle.values.specs.Types.{Layout, content_size, fits}
 use Rattle.values.specs.Words.{field, word, zero_at}
 use Rattle.values.specs.declared.error.ErrorKind.TheVariants.{Malformed}
 
--- 02, #108: "Every record becomes 128 bytes"; a literal's content stands behind its next and its length
+-- 01: "records of 64 bytes"; a literal's content stands behind its next and its length
 abbrev pub header_size : ℕ
 header_size = 4
 
 abbrev pub record_size : ℕ
 record_size = header_size + content_size
-
-is_128 : record_size ≡ 128
-is_128 = refl
 
 -- how many records s has, and record k of them; 01: "numbered from 0"
 abbrev pub record_count : List ℕ → ℕ
@@ -22,7 +19,7 @@ record_count s = length s / record_size
 abbrev pub record_at : List ℕ → ℕ → List ℕ
 record_at s k = field (record_size * k) record_size s
 
--- 01: "Literal: 0–1 next; 2–3 length;" and 02, #108, "content is bytes 4 to 127"; 01: "zero after the length"
+-- 01: "Literal: 0–1 next; 2–3 length; 4–63 content, zero after the length"
 abbrev pub next_in : List ℕ → ℕ
 next_in r = word 0 2 r
 

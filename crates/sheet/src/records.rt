@@ -10,7 +10,7 @@ use values::words::{u16_at, u32_at, u64_at};
 // The sizes of a record and of its parts, in bytes.
 pub const HEADER_SIZE: usize = 4;
 
-pub const CONTENT_SIZE: usize = 124;
+pub const CONTENT_SIZE: usize = 60;
 
 pub const RECORD_SIZE: usize = HEADER_SIZE + CONTENT_SIZE;
 

@@ -31,7 +31,7 @@ answer_in (err e) = []
 abbrev pub projection_line : List ℕ → Res (Projected (List ℕ)) → List ℕ
 projection_line word r = answer_line word (answer_number (answer_of r)) (answer_in r)
 
--- "reads one sheet .. and prints two lines"; 02, #108: "reads up to 8,320" bytes; over them is 3, as of any sheet to be projected (`over_the_longest`)
+-- "reads one sheet .. and prints two lines"; "Over 4,160 bytes is 3", as of any sheet to be projected (`over_the_longest`)
 unfoldable pub printed : List ℕ → List ℕ
 printed input = projection_line (ascii "inclusive") (project_sheet Inclusive input) ++ projection_line (ascii "strict") (project_sheet Strict input)
 

@@ -25,16 +25,16 @@ type_number Binary = 10
 abbrev pub same_type : PrimitiveType → PrimitiveType → Bool
 same_type a b = type_number a == type_number b
 
--- the most bytes of a content. 02, #108: "content is bytes 4 to 127, so a String or Binary has up to 124"
+-- the most bytes of a String or a Binary
 abbrev pub content_size : ℕ
-content_size = 124
+content_size = 60
 
 -- how a value of a type stands in bytes: a number of so many, or a byte string of at most so many
 pub data Layout : Type 0 where
   number : ℕ → Layout
   bytes : ℕ → Layout
 
--- 01: "Int and Date have length 4, 2 and 4–8 length 8 (two's complement), 9–10 from 0 to" `content_size`
+-- 01: "Int and Date have length 4, 2 and 4–8 length 8 (two's complement), 9–10 from 0 to 60"
 abbrev pub layout : PrimitiveType → Layout
 layout Int = number 4
 layout Long = number 8

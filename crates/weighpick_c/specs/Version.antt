@@ -5,9 +5,9 @@ use Rattle.std.specs.Prelude.{ℕ, ◌+◌, ◌*◌, ◌≡◌, refl}
 abbrev pub version_number : ℕ → ℕ → ℕ → ℕ
 version_number major minor patch = 1000000 * major + 1000 * minor + patch
 
--- 0.10.0
+-- 0.9.0
 abbrev pub version : ℕ
-version = version_number 0 10 0
+version = version_number 0 9 0
 
-is_10000 : version ≡ 10000
-is_10000 = refl
+is_9000 : version ≡ 9000
+is_9000 = refl

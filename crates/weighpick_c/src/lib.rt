@@ -25,7 +25,7 @@ use pool::pool::{PoolResult, pool};
 pub extern "C" fn weighpick_version() -> u32
     ensures { result ≡ version }
 {
-    10_000
+    9_000
 }
 
 // Sets the count of an answer, and gives its number.

