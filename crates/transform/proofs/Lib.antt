@@ -2,6 +2,7 @@
 pub mod CountedOff
 pub mod Dates
 pub mod Division
+pub mod Ends
 pub mod Groups
 pub mod Moments
 pub mod Months

@@ -12,10 +12,10 @@ use Rattle.transform.specs.laws.FloorLaws.{floor_fits, day_fits}
 
 module _ (v : ℤ) {r : ℤ} (d : ℕ) (told : mag v < 2 ^ hbits w64) (e : r ≡ floor_div (to_z w64 (of_z w64 v)) d) where
   quotient : r ≡ floor_div v d
-  quotient = e ∙ ap (λ (z : ℤ). floor_div z d) (back (ok v told))
+  quotient = e ∙ ap (λ (z : ℤ). floor_div z d) (back {w = w64} (ok v told))
 
   read_back : to_z w64 (of_z w64 r) ≡ r
-  read_back = back (rw quotient (floor_fits d (ok v told)))
+  read_back = back {w = w64} (rw quotient (floor_fits d (ok v told)))
 
   pub hour_is : to_z w64 (of_z w64 r) ≡ floor_div v d
   hour_is = read_back ∙ quotient
@@ -24,6 +24,6 @@ module _ (v : ℤ) {r : ℤ} (d : ℕ) (told : mag v < 2 ^ hbits w64) (e : r ≡
   day_narrow h = rw hour_is (day_fits d h (ok v told))
 
   pub day_is : 86400000000 ≤ d → to_z w32 (of_z w32 (to_z w64 (of_z w64 r))) ≡ floor_div v d
-  day_is h = back (day_narrow h) ∙ hour_is
+  day_is h = back {w = w32} (day_narrow h) ∙ hour_is
 
 pub ruleset moments = (hour_is, day_narrow, day_is, lit≤)

@@ -114,6 +114,7 @@ fn month_in(day: u32, leap: bool) -> u32
 
 impl Days {
     // The groups of years before the day's own, the largest counted off first.
+    #[tactic(auto, using(crate::proofs::Ends::ends_before, crate::proofs::Ends::ends_after))]
     pub fn year_groups(self) -> Grouped
         ensures { result ≡ grouped self.0 }
     {

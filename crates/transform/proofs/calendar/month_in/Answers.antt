@@ -1,8 +1,6 @@
 -- `calendar::month_in` meets its contract: its two divisions give the month that is counted off (`Months`). Assumes nothing.
-use Prim.Native.Nat.{◌≤◌, ◌<◌}
-use borrow.Author.Rules.{rules}
 use native.Mathlib.Omega.{arith}
-use Rattle.transform.proofs.Months.{length_bounds, day_small, month_early, month_late}
+use Rattle.transform.proofs.Months.{month_early, month_late}
 use Rattle.transform.proofs.calendar.month_in.Goals as goal
 
 pub returns-then-day-length : goal.returns-then-day-length

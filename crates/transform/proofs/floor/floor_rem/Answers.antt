@@ -1,6 +1,6 @@
 -- `transform::floor::floor_rem` meets its contract. The plain facts stand in a `let`, and `search` carries them over to the locals' bits. Assumes nothing.
-use lib.IntN.{pos, ◌+ℤ◌}
-use lib.Signed.{◌<ℤ◌, rem_z}
+use lib.IntN.{◌+ℤ◌}
+use lib.Signed.{rem_z}
 use mir.Syntax.{w64}
 use mir.Val.{SFits}
 use mir.Facts.{sfits_lit}
@@ -8,17 +8,13 @@ use Rattle.values.specs.laws.SignedLaws.{back, lt_taken, lt_left}
 use Rattle.transform.proofs.Division.{dividing, rem_fits, rem_neg, rem_pos, mod_fits}
 use Rattle.transform.proofs.floor.floor_rem.Goals as goal
 
-module _ (c : Then-r-lt0) where
-  neg : rem_z c.args.v c.args.d <ℤ pos 0
-  neg =
-      let f = c.ranges in
-      lt_taken (rem_fits f.v f.d) (sfits_lit tt) (rw (back f.v, back f.d) at c.if-r-lt0.true)
-
-  sum_fits : SFits w64 (rem_z c.args.v c.args.d +ℤ c.args.d)
-  sum_fits = let f = c.ranges in rw (rem_neg f.v neg c.requires) (mod_fits f.v f.d c.requires)
-
 pub returns-then-r-lt0 : goal.returns-then-r-lt0
-returns-then-r-lt0 c = let s = sum_fits c in let e = rem_neg c.ranges.v (neg c) c.requires in search dividing
+returns-then-r-lt0 c =
+    let f = c.ranges in
+    let neg = lt_taken (rem_fits f.v f.d) (sfits_lit tt) (rw (back f.v, back f.d) at c.if-r-lt0.true) in
+    let e = rem_neg f.v neg c.requires in
+    let s : SFits w64 (rem_z c.args.v c.args.d +ℤ c.args.d) = rw e (mod_fits f.v f.d c.requires) in
+    search dividing
 
 pub returns-else-r-lt0 : goal.returns-else-r-lt0
 returns-else-r-lt0 c =

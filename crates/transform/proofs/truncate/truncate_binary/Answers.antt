@@ -1,10 +1,9 @@
 -- `truncate_binary` meets its contract: a binary no longer than the width is its own first bytes. Assumes nothing.
-use Prim.Native.Nat.{ℕ, ◌≤◌, ◌<◌}
-use native.Mathlib.Omega.{arith}
+use Prim.Native.Nat.{ℕ, ◌≤◌}
 use mathlib.Core.List.{List}
 use mathlib.Core.Path.{◌≡◌, refl, sym}
 use lib.ListN.{length, take}
-use lib.Seq.{take_all, length-take-le}
+use lib.Seq.{take_all}
 use Rattle.transform.specs.Truncate.{first_bytes}
 use Rattle.transform.proofs.truncate.truncate_binary.Goals as goal
 
@@ -12,8 +11,9 @@ whole : (s : List ℕ) (w : ℕ) → length s ≤ w → s ≡ first_bytes w s
 unfolding first_bytes
 whole s w h = sym (take_all w s h)
 
-cut : (s : List ℕ) (w : ℕ) → w < length s → w ≡ length (take w s)
-cut s w h = sym (length-take-le w s (omega arith))
+part : (s : List ℕ) (w : ℕ) → take w s ≡ first_bytes w s
+unfolding first_bytes
+part s w = refl
 
 pub returns-then-s-n : goal.returns-then-s-n
 returns-then-s-n c = search whole

@@ -3,7 +3,6 @@ use native.Mathlib.Omega.{arith}
 use mathlib.Core.Path.{sym, ap, ◌∙◌}
 use lib.ListN.{take}
 use lib.Seq.{length-take-le}
-use borrow.Author.Rules.{rules}
 use Rattle.transform.specs.laws.StringLaws.{first_take, first_length}
 use Rattle.transform.proofs.truncate.truncate_str.Goals as goal
 

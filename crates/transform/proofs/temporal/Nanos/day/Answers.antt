@@ -1,5 +1,4 @@
 -- `transform::temporal::Nanos::day` meets its contract: one division by the unit. Assumes nothing.
-use borrow.Author.Rules.{rules}
 use Rattle.transform.proofs.Moments.{moments}
 use Rattle.transform.proofs.temporal.Nanos.day.Goals as goal
 

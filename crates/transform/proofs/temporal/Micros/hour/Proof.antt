@@ -1,8 +1,0 @@
--- `transform::temporal::Micros::hour` meets its contract: one division by the unit. Assumes nothing.
-use borrow.Author.Rules.{rules}
-use Rattle.transform.proofs.Moments.{moments}
-use Rattle.transform.proofs.temporal.Micros.hour.Statement.{statement}
-use Rattle.transform.proofs.temporal.Micros.hour.Tie as tie
-
-pub hour-spec : {M : Type 1} → statement M
-hour-spec = tie.close (tie.spec (search rules) (λ c. search moments))
