@@ -1,4 +1,6 @@
 // The calendar under C's names, for the run over every day (compare/calendar). The library of weighpick has no such names.
+#![tactic(auto)]
+
 ghost use Rattle.std.specs.Prelude.{cond, ◌≡◌};
 ghost use Rattle.transform.specs.Calendar.{in_calendar, civil_year, civil_month};
 ghost use Rattle.transform.specs.YearGroups.{count400, count100, count4, count1, day_in_year};
