@@ -1,4 +1,6 @@
 // Sheets and value records, read where they lie.
+#![tactic(auto)]
+
 pub mod chain;
 pub mod content;
 pub mod head;

@@ -1,9 +1,9 @@
 -- What the code that reads sheets answers, as the definitions have it: its enums, a walk's count, and the records that it names. Assumes nothing.
-use Rattle.std.specs.Prelude.{ℕ, suc, ◌+◌, ◌-◌, ◌*◌, ◌≤◌, ◌<◌, Bool, true, false, cond, ◌&&◌, List, [], ◌∷◌, map, ◌++◌, ◌≡◌, eqb, ltb, ℤ, pos, length, get_or, take}
+use Rattle.std.specs.Prelude.{ℕ, suc, ◌+◌, ◌*◌, ◌≤◌, ◌<◌, Bool, true, false, cond, ◌&&◌, List, [], ◌∷◌, map, ◌++◌, ◌≡◌, eqb, ltb, ℤ, pos, length, get_or, take}
 use Rattle.values.specs.Numbered.{find}
 use Rattle.values.specs.Outcomes.{Res, ok, err, need, ◌>>=◌, ◌>>◌, Row, missing, present}
 use Rattle.values.specs.Types.{Layout, number, bytes, layout, content_size, fits, in_range}
-use Rattle.values.specs.Words.{le_number, field, word, zero_at, signed}
+use Rattle.values.specs.Words.{le_number, field, word, signed}
 use Rattle.values.specs.declared.error.ErrorKind.TheVariants.{Malformed}
 use Rattle.expr.specs.Operators.{operators, holds_limit}
 use Rattle.expr.specs.Predicates.{operator_in, literals_in}

@@ -1,7 +1,7 @@
 -- A sheet by the steps of the code that reads it: its size, its head, the numbers on its chain, and how many literals its operator takes. Assumes nothing.
-use Prim.Native.Nat.{ℕ, suc, ◌-◌, ◌*◌, ◌%◌}
+use Prim.Native.Nat.{ℕ, suc, ◌*◌, ◌%◌}
 use Rattle.std.proofs.Common.{arith, sym, ◌∙◌, ne_eqb}
-use Rattle.std.specs.Prelude.{Bool, true, false, List, [], ◌∷◌, map, ◌≡◌, refl, ltb, leb, eqb, length}
+use Rattle.std.specs.Prelude.{true, false, List, [], ◌∷◌, map, ◌≡◌, refl, ltb, leb, eqb, length}
 use Rattle.std.proofs.Math.Path.{ap}
 use Rattle.values.specs.Numbered.{find}
 use Rattle.values.specs.Outcomes.{Res, ok, err, need, each, ◌>>=◌, ◌>>◌}
