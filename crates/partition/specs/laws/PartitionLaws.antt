@@ -2,7 +2,7 @@
 -- `BytesPartitionLaws` has those of strings and binaries. Assumes nothing.
 use Rattle.std.specs.Prelude.{ℕ, ◌≤◌, ◌<◌, true, not, ◌||◌, List, ◌≡◌, refl, ltb, leb, ℤ, pos, ◌≤ℤ◌}
 use Rattle.std.proofs.Common.{arith, true≢false, sym, ap, subst, ◌∙◌}
-use Rattle.values.specs.Outcomes.{Res, ok, ◌>>=◌, ◌>>◌, Row, missing, present}
+use Rattle.values.specs.Outcomes.{Res, ok, ◌>>=◌, Row, missing, present}
 use Rattle.values.specs.laws.OutcomeLaws.{ok_inj, present_inj, ok_not_err, missing_not_present, passed, gone}
 use Rattle.values.specs.laws.IntLaws.{ints, neg}
 use Rattle.values.specs.laws.RangeLaws.{in_type_lem, in_int, in_type_long, four}
