@@ -38,12 +38,14 @@ abbrev pub Above : ℤ → (ℤ → Type 0) → Type 0
 Above p g = (z : ℤ) × (p ≡ suc_ℤ z) × (z <ℤ pos 0) × g z
 
 keeps_member : {p : ℤ} (ts : List ℤ) → Isin p ts → Isin p (with_nexts ts)
+keeps_member {p = p} [] x' = elim x' [ ]
 keeps_member (pos n ∷ ts) (here e) = here e
 keeps_member (pos n ∷ ts) (there m) = there (keeps_member ts m)
 keeps_member (negsuc n ∷ ts) (here e) = here e
 keeps_member (negsuc n ∷ ts) (there m) = there (there (keeps_member ts m))
 
 adds_next : {z : ℤ} (ts : List ℤ) → z <ℤ pos 0 → Isin z ts → Isin (suc_ℤ z) (with_nexts ts)
+adds_next {z = z} [] g x'' = elim x'' [ ]
 adds_next (pos n ∷ ts) g (here e) = absurd (omega ints)
 adds_next (pos n ∷ ts) g (there m) = there (adds_next ts g m)
 adds_next (negsuc n ∷ ts) g (here e) = there (here (ap suc_ℤ e))
@@ -57,6 +59,7 @@ negative : (n : ℕ) → negsuc n <ℤ pos 0
 negative n = omega ints
 
 member_or_next : {p : ℤ} (ts : List ℤ) → Isin p (with_nexts ts) → Isin p ts ⊎ Above p (λ z. Isin z ts)
+member_or_next {p = p} [] x' = elim x' [ ]
 member_or_next (pos n ∷ ts) (here e) = inl (here e)
 member_or_next (pos n ∷ ts) (there m) = further (member_or_next ts m)
 member_or_next (negsuc n ∷ ts) (here e) = inl (here e)

@@ -1,5 +1,5 @@
 -- From the numbers of a partition value to its rows: what is exact of present values is exact of rows. Assumes nothing.
-use Rattle.std.specs.Prelude.{Bool, false, ◌⊎◌, ◌≡◌, ℤ}
+use Rattle.std.specs.Prelude.{Bool, false, ◌≡◌, ℤ}
 use Rattle.std.proofs.Common.{inl, inr, ⊎_elim, sym, ap, ◌∙◌}
 use Rattle.values.specs.Order.{compare_numbers}
 use Rattle.values.specs.laws.OrderLaws.{number_order}

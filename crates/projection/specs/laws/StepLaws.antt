@@ -100,6 +100,7 @@ opposite_each {B = B} compare o T ls = go (each T ls)
 -- ---- each T(L) of a set: its members are the values of the literals
 module _ {A B : Type 0} (T : A → Res B) where
   pub each_into : (ls : List A) {ts : List B} → each T ls ≡ ok ts → (v : A) (p : B) → T v ≡ ok p → Isin v ls → Isin p ts
+  each_into [] {ts = ts} e v p h x3 = elim x3 [ ]
   each_into (l ∷ ls) e v p h (here d) = let a = each_cons T l ls e in rw a.4 (here (ok_inj (sym h ∙ ap T d ∙ a.2)))
   each_into (l ∷ ls) e v p h (there m) = let a = each_cons T l ls e in rw a.4 (there (each_into ls a.3 v p h m))
 
