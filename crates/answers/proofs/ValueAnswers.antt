@@ -22,7 +22,7 @@ use Rattle.partition.specs.declared.bytes.BytesResult.{BytesResult}
 use Rattle.partition.specs.declared.bytes.BytesResult.TheVariants as bytes_result_lem
 use Rattle.partition.specs.declared.number.NumberResult.{NumberResult}
 use Rattle.partition.specs.declared.number.NumberResult.TheVariants as number_result_lem
-use Rattle.projection.specs.laws.LandingLaws.{number_partition_lands}
+use Rattle.projection.proofs.LandingLaws.{number_partition_lands}
 use Rattle.sheet.specs.laws.RecordLaws.{fits_room, number_type}
 use Rattle.sheet.specs.Records.{record_size, value}
 use Rattle.sets.specs.laws.TransformedLaws.{value_said_lem}

@@ -17,7 +17,7 @@ use Rattle.values.specs.declared.transform.Transform.{Transform}
 use Rattle.expr.specs.Operators.{project_limit}
 use Rattle.expr.specs.Predicates.{Predicate, literals_in}
 use Rattle.projection.specs.laws.LeafDemand.{HeldIn}
-use Rattle.projection.specs.laws.LeafDemandLaws.{bytes_no_row_lost, bytes_strict_is_safe}
+use Rattle.projection.proofs.LeafDemandLaws.{bytes_no_row_lost, bytes_strict_is_safe}
 use Rattle.projection.specs.Steps.{some}
 use Rattle.projection.specs.declared.question.Question.{Question}
 use Rattle.projection.specs.declared.question.Question.TheVariants.{Inclusive, Strict}

@@ -15,8 +15,8 @@ use Rattle.values.specs.declared.transform.Transform.{Transform}
 use Rattle.partition.specs.code.PartitionAnswers.{InType, OfPresent}
 use Rattle.partition.specs.Partition.{known, number_partition}
 use Rattle.projection.specs.laws.LeafDemand as over-values
-use Rattle.projection.specs.laws.LeafDemandLaws.{numbers_strict_exact, numbers_inclusive_exact}
-use Rattle.projection.specs.laws.LandingLaws.{number_partition_lands}
+use Rattle.projection.proofs.LeafDemandLaws.{numbers_strict_exact, numbers_inclusive_exact}
+use Rattle.projection.proofs.LandingLaws.{number_partition_lands}
 use Rattle.projection.specs.Lifting.{lifted}
 use Rattle.projection.specs.declared.question.Question.{Question}
 use Rattle.projection.specs.declared.question.Question.TheVariants.{Inclusive, Strict}

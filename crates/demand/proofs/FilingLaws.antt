@@ -24,9 +24,9 @@ use Rattle.projection.specs.Lifting.{lifted}
 use Rattle.projection.specs.Steps.{some}
 use Rattle.projection.specs.declared.question.Question.TheVariants.{Inclusive, Older}
 use Rattle.projection.specs.laws.LeafDemand as over-values
-use Rattle.projection.specs.laws.LeafDemandLaws.{bytes_no_row_lost, bytes_strict_is_safe}
+use Rattle.projection.proofs.LeafDemandLaws.{bytes_no_row_lost, bytes_strict_is_safe}
 use Rattle.projection.specs.laws.OlderLeafDemand as older-values
-use Rattle.projection.specs.laws.OlderLeafDemandLaws.{numbers_no_older_row_lost, numbers_older_is_safe, bytes_older_is_strict}
+use Rattle.projection.proofs.OlderLeafDemandLaws.{numbers_no_older_row_lost, numbers_older_is_safe, bytes_older_is_strict}
 use Rattle.sheet.specs.Sheets.{head}
 use Rattle.answers.specs.Kinds.{Kind, numbers, byte_strings}
 use Rattle.answers.specs.laws.BytesLeafLaws.{no_time, not_listed}

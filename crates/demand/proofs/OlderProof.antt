@@ -18,7 +18,7 @@ use Rattle.projection.specs.Lifting.{lifted}
 use Rattle.projection.specs.Steps.{Projected, mapped}
 use Rattle.projection.specs.declared.question.Question.{Question}
 use Rattle.projection.specs.declared.question.Question.TheVariants.{Inclusive, Strict, Older}
-use Rattle.projection.specs.laws.OlderLeafDemandLaws.{numbers_older_is_strict, bytes_older_is_strict}
+use Rattle.projection.proofs.OlderLeafDemandLaws.{numbers_older_is_strict, bytes_older_is_strict}
 use Rattle.sheet.specs.Sheets.{Sheet, sheet}
 use Rattle.sheet.specs.laws.SheetLaws.{sheet_read_lem}
 use Rattle.sheet.specs.Values.{by_layout, each_literal, map_literals}

@@ -22,7 +22,7 @@ use Rattle.partition.specs.ResultType.{result_type}
 use Rattle.expr.specs.Predicates.{Predicate, literals_in}
 use Rattle.projection.specs.Projection.{project_numbers, project_bytes}
 use Rattle.projection.specs.declared.question.Question.TheVariants.{Inclusive}
-use Rattle.projection.specs.laws.LeafDemandLaws.{numbers_strict_exact, bytes_strict_is_safe}
+use Rattle.projection.proofs.LeafDemandLaws.{numbers_strict_exact, bytes_strict_is_safe}
 use Rattle.sheet.specs.laws.RefusalLaws.{Only}
 use Rattle.demand.proofs.BytesKindLaws.{row_held, all_parts, bytes_values, bytes_kind}
 use Rattle.demand.proofs.FilingLaws.{number_filing, bytes_filing_lem}

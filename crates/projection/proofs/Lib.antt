@@ -1,2 +1,11 @@
--- Lemmas that the proofs of the crates above share.
+-- Laws of the steps, the lowest first; an edit of a step breaks them. `QuestionArms` has what the proofs of the crates above share.
+pub mod OppositeLaws
+pub mod MissingLaws
+pub mod NumberLaws
+pub mod NumberRowLaws
+pub mod SoundLaws
+pub mod LeafDemandLaws
+pub mod OlderLeafDemandLaws
+pub mod LiteralLaws
+pub mod LandingLaws
 pub mod QuestionArms

@@ -4,15 +4,6 @@ pub mod RowLaws
 pub mod StepLaws
 pub mod EqualLaws
 pub mod LiftingLaws
-pub mod OppositeLaws
-pub mod MissingLaws
-pub mod NumberLaws
 pub mod ProjectionLaws
-pub mod NumberRowLaws
 pub mod ByteLaws
-pub mod SoundLaws
-pub mod LeafDemandLaws
 pub mod OlderLeafDemand
-pub mod OlderLeafDemandLaws
-pub mod LiteralLaws
-pub mod LandingLaws

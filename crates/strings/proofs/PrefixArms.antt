@@ -29,7 +29,7 @@ use Rattle.projection.specs.code.OneLiteral.{one_test, asked}
 use Rattle.strings.specs.code.Prefixes.{bytes_leaf, bytes_projected, truncated_leaf, starts_leaf, not_starts_leaf}
 use Rattle.projection.specs.ByteSteps.{Step}
 use Rattle.projection.specs.Projection.{length_of}
-use Rattle.projection.specs.laws.LeafDemandLaws.{whole_stays}
+use Rattle.projection.proofs.LeafDemandLaws.{whole_stays}
 use Rattle.projection.specs.Steps.{some, none}
 use Rattle.strings.specs.declared.steps.BytesProjection.{BytesProjection}
 use Rattle.projection.proofs.QuestionArms.{strict_tags, strict_question, asked_strict}

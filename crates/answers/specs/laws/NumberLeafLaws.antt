@@ -24,7 +24,7 @@ use Rattle.expr.specs.code.OperatorAnswers.{takes_one}
 use Rattle.expr.specs.Predicates.{Test, Predicate, test, binary, set, operator_in, literals_in}
 use Rattle.projection.specs.code.OneLiteral.{one_test}
 use Rattle.numbers.specs.code.Boundaries.{number_leaf, OneIn, two_test, number_projected}
-use Rattle.projection.specs.laws.LandingLaws.{numbers_land}
+use Rattle.projection.proofs.LandingLaws.{numbers_land}
 use Rattle.projection.specs.Projection.{by_transform, number_step, project_numbers}
 use Rattle.projection.specs.Steps.{some, mapped}
 use Rattle.projection.specs.declared.question.Question.{Question}

@@ -19,7 +19,7 @@ use Rattle.partition.specs.code.PartitionAnswers.{InType}
 use Rattle.expr.specs.Operators.{Binary, SetOperator, less_than, less_than_or_eq, greater_than, greater_than_or_eq, eq, not_eq, starts_with, not_starts_with, is_in, not_in}
 use Rattle.expr.specs.Predicates.{Test, binary, set, Predicate, unary, test, literals_in}
 use Rattle.expr.specs.laws.HoldsLaws.{opposite, opposite_literals}
-use Rattle.projection.specs.laws.OppositeLaws.{older_is}
+use Rattle.projection.proofs.OppositeLaws.{older_is}
 use Rattle.projection.specs.ByteSteps.{Step, by_length, string_starts, string_not_starts, binary_starts, binary_not_starts, inclusive_bytes, strict_bytes}
 use Rattle.projection.specs.Lifting.{with_nexts, lift, older}
 use Rattle.projection.specs.NumberSteps.{inclusive_number, strict_number}
