@@ -9,7 +9,7 @@ build.sh --crate DIR [options]    the crate from DIR, a folder with its publishe
 build.sh --registry [options]     the crate from the registry, iceberg = "=0.10.1" with all it needs (UNTRIED: needs a network that this was not built in)
 build.sh --no-crate [options]     without the crate: the benchmark of filters alone, which needs nothing but cargo
 
-  --lib FILE        the port's static library (default: ../target/staticlib/libweighpick_c.a; `rt staticlib weighpick_c` makes it)
+  --lib FILE        the port's static library (default: ../target/staticlib/libweighpick_c.a; `tools/staticlib weighpick_c` makes it)
   --out OUT         everything that is built goes below OUT (default: ../target/compare), nothing is installed
   --package NAME    build this one program of rust/ (default: all; `filters` with --no-crate)
   --profile NAME    cargo profile: release (overflow checks on, the default) or bench-crate (cargo's ordinary release)
@@ -55,9 +55,9 @@ command -v cargo >/dev/null || fail "cargo is not on the PATH"
 # The port's static library.
 if [ ! -e "$lib" ]; then
   command -v rt >/dev/null && [ "$(realpath -m "$lib")" = "$(realpath -m "$here/../target/staticlib/libweighpick_c.a")" ] ||
-    fail "no $lib: run \`rt staticlib weighpick_c\` in the repository first"
-  say "no $lib yet: rt staticlib weighpick_c"
-  (cd "$here/.." && rt staticlib weighpick_c) >&2 || fail "rt staticlib weighpick_c failed"
+    fail "no $lib: run \`tools/staticlib weighpick_c\` in the repository first"
+  say "no $lib yet: tools/staticlib weighpick_c"
+  (cd "$here/.." && tools/staticlib weighpick_c) >&2 || fail "tools/staticlib weighpick_c failed"
 fi
 WEIGHPICK_LIB=$(realpath "$lib")
 WEIGHPICK_LIB_DIR=$(dirname "$WEIGHPICK_LIB")

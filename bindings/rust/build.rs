@@ -6,13 +6,13 @@ use std::{env, process};
 /// What the library is built for.
 const ARCHITECTURE: &str = "x86_64";
 
-/// The library, as `rt staticlib` names it.
+/// The library, as `tools/staticlib` names it.
 const LIBRARY: &str = "weighpick_c";
 
 /// Where the library lies, if not in `DEFAULT_DIR`; a relative path starts at this crate's folder.
 const DIR_VARIABLE: &str = "WEIGHPICK_LIB_DIR";
 
-/// Where `rt staticlib` writes it, seen from this crate's folder.
+/// Where `tools/staticlib` writes it, seen from this crate's folder.
 const DEFAULT_DIR: &str = "../../target/staticlib";
 
 fn main() {
@@ -45,7 +45,7 @@ fn check_architecture() {
 /// What is to be done where the library is not there.
 fn missing(archive: &Path) -> String {
     format!(
-        "{} is missing: run `rt staticlib {LIBRARY}` in the repository's root, \
+        "{} is missing: run `tools/staticlib {LIBRARY}` in the repository's root, \
          or set {DIR_VARIABLE} to the folder that holds it",
         archive.display()
     )

@@ -43,7 +43,7 @@
 //! # Panics
 //!
 //! The first call of the library asks it for its version, and panics where that is not this crate's: of another version nothing is
-//! known that the calls rely on. The library is then to be built anew with `rt staticlib weighpick_c`, or `WEIGHPICK_LIB_DIR` to be
+//! known that the calls rely on. The library is then to be built anew with `tools/staticlib weighpick_c`, or `WEIGHPICK_LIB_DIR` to be
 //! set to the folder of the right one, and the program to be linked again. A library from before 0.9.0 tells no version, and is
 //! refused by the linker.
 //!

@@ -36,7 +36,7 @@ pub fn mismatch(own: u32, library: u32) -> Option<String> {
     let [own, library] = [own, library].map(words);
     Some(format!(
         "the linked library weighpick_c is version {library}, and the crate weighpick is version {own}: build the library \
-         anew with `rt staticlib weighpick_c`, or set WEIGHPICK_LIB_DIR to the folder of one of version {own}"
+         anew with `tools/staticlib weighpick_c`, or set WEIGHPICK_LIB_DIR to the folder of one of version {own}"
     ))
 }
 

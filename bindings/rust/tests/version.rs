@@ -59,7 +59,7 @@ fn another_version_is_told_in_words() {
         for part in [
             &format!("weighpick_c is version {words},"),
             "crate weighpick is version 0.9.0:",
-            "`rt staticlib weighpick_c`",
+            "`tools/staticlib weighpick_c`",
             "WEIGHPICK_LIB_DIR",
         ] {
             assert!(told.contains(part), "no `{part}` in `{told}`");

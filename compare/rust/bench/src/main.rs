@@ -38,7 +38,7 @@ fn main() -> ExitCode {
         eprintln!("bench: no kind has `{only}` in its name; the kinds are\n  {}", names.join("\n  "));
         return ExitCode::from(MISUSED);
     }
-    println!("Crate and plain Rust: opt-level 3, overflow checks {}. Port: as `rt staticlib` builds it.", checks());
+    println!("Crate and plain Rust: opt-level 3, overflow checks {}. Port: as `tools/staticlib` builds it.", checks());
     println!("{}", timing::method());
     println!("The C name's result buffer is not cleared between calls; the crate's transform functions are ready.");
     if !kinds.is_empty() {
