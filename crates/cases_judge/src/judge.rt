@@ -40,9 +40,12 @@ const FIRST_FILLER: u8 = 165;
 
 const FILLER_STEP: u8 = 7;
 
+// Room for the longest result buffer that a case can say: its length has 16 bits.
+const SPACE_SIZE: usize = 65536;
+
 // What a case asks beside its inputs and its result: the routine, the number expected, type, transform and width of a transform, and how long a result buffer
 // is lent.
-#[derive(Drop)]
+#[derive(Clone, Copy)]
 pub struct Question {
     pub routine: u8,
     pub expected: u8,
@@ -57,7 +60,7 @@ fn fill(out: &mut [u8]) {
     let mut i = 0;
     while i < out.len() {
         out[i] = filler;
-        filler = std::num::wrapping_add_u8(filler, FILLER_STEP);
+        filler = filler.wrapping_add(FILLER_STEP);
         i += 1;
     }
 }
@@ -72,7 +75,7 @@ fn is_filled_from(count: usize, out: &[u8]) -> bool {
                 return false;
             }
         }
-        filler = std::num::wrapping_add_u8(filler, FILLER_STEP);
+        filler = filler.wrapping_add(FILLER_STEP);
         i += 1;
     }
     true
@@ -279,6 +282,6 @@ pub fn is_right<'a>(
     if routine == PROGRAM {
         return is_printed(first, res);
     }
-    let mut space = io::large_buffer();
+    let mut space = [0; SPACE_SIZE];
     is_right_within(question, first, second, res, &mut space)
 }

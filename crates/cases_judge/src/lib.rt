@@ -1,2 +1,4 @@
 // What judges a case, for the program `cases`.
+#![tactic(auto)]
+
 pub mod judge;

@@ -1,11 +1,15 @@
 // Reads one sheet from standard input and prints what both projections answer (document 01, "Program `weighpick`").
+#![tactic(auto)]
+
+use input::read_full;
+use std::io;
 use text::program::{INPUT_SIZE, OUTPUT_SIZE, print_sheet};
 
 // An input that is longer than the buffer is cut, and answered 3 as all of it would be.
-fn main() {
+fn main(rt: HostRuntime) -> io::Result<()> {
     let mut sheet = [0; INPUT_SIZE];
-    let n = io::read_full(0, &mut sheet);
+    let n = read_full(&mut rt.stdin(), &mut sheet)?;
     let mut out = [0; OUTPUT_SIZE];
     let length = print_sheet(&sheet[..n], &mut out);
-    io::write_all(1, &out[..length]);
+    rt.write_all(&out[..length])
 }
