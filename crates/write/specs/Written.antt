@@ -1,5 +1,5 @@
 -- How sheets and value records are written. Assumes nothing.
-use Rattle.std.specs.Prelude.{ℕ, suc, ◌-◌, ◌*◌, List, [], ◌∷◌, ◌++◌, ◌≡◌, refl, length, replicate, ℤ}
+use Rattle.std.specs.Prelude.{ℕ, suc, ◌-◌, ◌*◌, List, [], ◌∷◌, ◌++◌, length, replicate, ℤ}
 use Rattle.values.specs.Outcomes.{Row, missing, present}
 use Rattle.values.specs.Types.{Layout, number, bytes, content_size, type_number}
 use Rattle.values.specs.Words.{le_bytes, signed_bytes}
