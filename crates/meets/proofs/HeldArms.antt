@@ -1,57 +1,42 @@
--- What a match on the operator returns in each arm for a present value, whatever its kind: `search arms`. Assumes nothing.
+-- What a match on the operator returns in `_` for a present value, whatever its kind. Assumes nothing.
 use Prim.Native.Nat.{ℕ, ◌≤◌}
 use native.Mathlib.Omega.{arith}
-use mathlib.Core.Bool.{Bool, true, false, not}
-use mathlib.Core.List.{List, [], ◌∷◌, map}
-use mathlib.Core.Path.{◌≡◌, refl, ap, ◌∙◌}
+use mathlib.Core.Bool.{Bool}
+use mathlib.Core.List.{List, map}
+use mathlib.Core.Path.{◌≡◌, refl}
+use Rattle.std.proofs.Common.{◌≢◌}
 use lib.ListN.{length, take, get_or}
-use lib.Seq.{slice, slice-cons}
-use types.Run.{OneOf}
-use Rattle.values.specs.Ascending.{elem}
+use lib.Seq.{slice-cons}
 use Rattle.expr.specs.code.OperatorAnswers.{meets_one}
 use Rattle.expr.specs.Holds.{Tests}
-use Rattle.expr.specs.Operators.{by_arity}
+use Rattle.expr.specs.Operators.{Binary, one, by_arity, less_than, less_than_or_eq, greater_than, greater_than_or_eq, eq, not_eq, starts_with, not_starts_with}
 use Rattle.expr.specs.declared.operator.PredicateOperator.{PredicateOperator}
-use Rattle.expr.specs.declared.operator.PredicateOperator.TheVariants.{IsNull, NotNull, IsNan, NotNan, In, NotIn}
-use Rattle.expr.proofs.OperatorArms.{position, but, agree}
+use Rattle.expr.specs.declared.operator.PredicateOperator.TheVariants.{IsNull, NotNull, IsNan, NotNan, LessThan, LessThanOrEq, GreaterThan, GreaterThanOrEq, Eq, NotEq, StartsWith, NotStartsWith, In, NotIn}
 use Rattle.meets.specs.code.HeldAnswers.{present_held}
 
--- the operators that take one literal
-abbrev pub taking_one : List PredicateOperator
-taking_one = but (IsNull ∷ NotNull ∷ IsNan ∷ NotNan ∷ In ∷ NotIn ∷ [])
+-- in `_` the operator is one of those that take one literal
+pub record TakesOne (o : PredicateOperator) : Type 0 where
+  pub of : Binary
+  pub is : by_arity o ≡ one of
 
-module _ {A : Type 0} (by : Tests A) {o : PredicateOperator} (ls : List A) (v : A) where
-  pub null_no : o ≡ IsNull → false ≡ present_held by (by_arity o) ls v
-  null_no is = rw is
+pub takes_one_lem : (o : PredicateOperator) → o ≢ IsNull → o ≢ NotNull → o ≢ IsNan → o ≢ NotNan → o ≢ In → o ≢ NotIn → TakesOne o
+takes_one_lem IsNull a b c d e f = absurd (a refl)
+takes_one_lem NotNull a b c d e f = absurd (b refl)
+takes_one_lem IsNan a b c d e f = absurd (c refl)
+takes_one_lem NotNan a b c d e f = absurd (d refl)
+takes_one_lem LessThan a b c d e f = record { of = less_than; is = refl }
+takes_one_lem LessThanOrEq a b c d e f = record { of = less_than_or_eq; is = refl }
+takes_one_lem GreaterThan a b c d e f = record { of = greater_than; is = refl }
+takes_one_lem GreaterThanOrEq a b c d e f = record { of = greater_than_or_eq; is = refl }
+takes_one_lem Eq a b c d e f = record { of = eq; is = refl }
+takes_one_lem NotEq a b c d e f = record { of = not_eq; is = refl }
+takes_one_lem StartsWith a b c d e f = record { of = starts_with; is = refl }
+takes_one_lem NotStartsWith a b c d e f = record { of = not_starts_with; is = refl }
+takes_one_lem In a b c d e f = absurd (e refl)
+takes_one_lem NotIn a b c d e f = absurd (f refl)
 
-  pub null_yes : o ≡ NotNull → true ≡ present_held by (by_arity o) ls v
-  null_yes is = rw is
-
-  pub nan_no : o ≡ IsNan → false ≡ present_held by (by_arity o) ls v
-  nan_no is = rw is
-
-  pub nan_yes : o ≡ NotNan → true ≡ present_held by (by_arity o) ls v
-  nan_yes is = rw is
-
-  pub member : {r : Bool} → o ≡ In → r ≡ elem by.compare v ls → r ≡ present_held by (by_arity o) ls v
-  member is e = rw is e
-
-  pub no_member : {r : Bool} → o ≡ NotIn → r ≡ elem by.compare v ls → not r ≡ present_held by (by_arity o) ls v
-  no_member is e = rw is (ap not e)
-
-pub ruleset arms = (null_no, null_yes, nan_no, nan_yes, member, no_member)
-
--- in `_`, of the literals in the first count records: there is none, or there is a first
-module _ {A : Type 0} (by : Tests A) (o : PredicateOperator) (m : OneOf (map position taking_one) (position o)) (f : ℕ → A) (records : List ℕ)
-    (count : ℕ) (v : A) where
-  pub without_literal : count ≡ 0 → false ≡ present_held by (by_arity o) (map f (take count records)) v
-  without_literal z = rw z (agree (λ p. false) (λ p. present_held by (by_arity p) [] v) taking_one o m refl)
-
-  pub with_literal_lem : {r : Bool} → (count ≡ 0 → ⊥) → count ≤ length records → r ≡ meets_one by (by_arity o) v (f (get_or records 0 0))
-      → r ≡ present_held by (by_arity o) (map f (take count records)) v
-  with_literal_lem some room e =
-      let ls = map f (slice 1 count records) in
-      let l = f (get_or records 0 0) in
-      e
-      ∙ rw (slice-cons 0 count records 0 (omega arith) room)
-      (agree (λ p. meets_one by (by_arity p) v l) (λ p. present_held by (by_arity p) (l ∷ ls) v) taking_one o m refl)
+-- of the literals in the first count records there is a first
+pub with_literal_lem : {A : Type 0} (by : Tests A) {o : PredicateOperator} (m : TakesOne o) (f : ℕ → A) (records : List ℕ) (count : ℕ) (v : A) {r : Bool}
+    → count ≢ 0 → count ≤ length records → r ≡ meets_one by (by_arity o) v (f (get_or records 0 0))
+    → r ≡ present_held by (by_arity o) (map f (take count records)) v
+with_literal_lem by m f records count v some room e = rw (slice-cons 0 count records 0 (omega arith) room, m.is) (rw m.is at e)
