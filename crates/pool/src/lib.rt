@@ -1,2 +1,4 @@
 // One summary for two files.
+#![tactic(auto)]
+
 pub mod pool;

@@ -1,3 +1,5 @@
 // Summaries of files, read where they lie.
+#![tactic(auto)]
+
 pub mod checks;
 pub mod summary;

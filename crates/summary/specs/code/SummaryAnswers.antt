@@ -1,7 +1,7 @@
 -- What the code that reads summaries answers, as the definitions have it, and where the ends are in the bytes. Assumes nothing.
-use Rattle.std.specs.Prelude.{ℕ, Bool, true, false, not, ◌&&◌, ◌||◌, List, ◌≡◌}
+use Rattle.std.specs.Prelude.{ℕ, Bool, true, false, not, ◌&&◌, ◌||◌, List}
 use Rattle.values.specs.Outcomes.{Res, ok, err, Row, missing, present}
-use Rattle.values.specs.Types.{Layout, layout, same_type}
+use Rattle.values.specs.Types.{Layout, same_type}
 use Rattle.values.specs.Utf8.{utf8}
 use Rattle.values.specs.declared.datatypes.PrimitiveType.{PrimitiveType}
 use Rattle.values.specs.declared.datatypes.PrimitiveType.TheVariants.{String}
