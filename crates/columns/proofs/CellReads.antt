@@ -2,72 +2,52 @@
 use Prim.Native.Nat.{ℕ, suc, ◌+◌, ◌-◌, ◌*◌, ◌≤◌, ◌<◌}
 use native.Mathlib.Numerals.{add-one}
 use native.Mathlib.Omega.{arith}
-use mathlib.Core.Bool.{Bool, true, false, cond, ◌&&◌, and_assoc, and-true, and-false, or-true, not, ◌||◌}
+use mathlib.Core.Bool.{Bool, true, false, cond, ◌&&◌, and_assoc, and-true, and-false, not, ◌||◌}
 use mathlib.Core.List.{List, [], ◌∷◌, map}
 use mathlib.Core.Path.{◌≡◌, refl, sym, ap, ◌∙◌}
-use lib.ListN.{length, drop, drop_of_length-le}
+use lib.ListN.{length, take, drop}
 use lib.Seq.{drop-cons, take-take}
 use borrow.Author.Tests.{eq-eqb, ne_eqb}
 use Rattle.values.specs.Outcomes.{Res, ok, err, need, each, ◌>>=◌, ◌>>◌, Row}
 use Rattle.values.specs.laws.OutcomeLaws.{need_both}
 use Rattle.values.specs.Types.{layout, content_size, same_type}
 use Rattle.values.specs.Utf8.{utf8}
-use Rattle.values.specs.code.TypeResults.{type_result}
-use Rattle.values.specs.laws.TypeResultLaws.{type_told}
-use Rattle.values.specs.declared.datatypes.TypeResult.{TypeResult}
-use Rattle.values.specs.declared.datatypes.TypeResult.TheVariants as type-result
 use Rattle.values.specs.declared.datatypes.PrimitiveType.{PrimitiveType}
 use Rattle.values.specs.declared.datatypes.PrimitiveType.TheVariants.{String}
-use Rattle.values.specs.declared.error.ErrorKind.{ErrorKind}
 use Rattle.values.specs.declared.error.ErrorKind.TheVariants as error
-use Rattle.partition.specs.ResultType.{result_type}
-use Rattle.sheet.specs.declared.head.Fields.{Fields}
 use Rattle.sheet.specs.Records.{record_size, record_at, length_in, value}
 use Rattle.sheet.specs.code.ReadAnswers.{content_at, value_result}
 use Rattle.sheet.specs.laws.ReadLaws.{bytes_row, then_need}
 use Rattle.sheet.specs.laws.RefusalLaws.{OnlyMalformed, value_only}
-use Rattle.sheet.specs.laws.ResultLaws.{value_refused, missing_read, present_read}
+use Rattle.sheet.specs.laws.ResultLaws.{present_read}
 use Rattle.sheet.specs.declared.value.ValueResult.{ValueResult}
 use Rattle.sheet.specs.declared.value.ValueResult.TheVariants as value-result
 use Rattle.columns.specs.Columns.{Column, columns}
-use Rattle.columns.specs.Cells.{Side, rows, parts, type_of, Cell, cells_from, read_cell, cells_of}
-use Rattle.columns.specs.code.ColumnAnswers.{columns_in, no_column, column_at, fields_of, encoded, checked, values_result}
+use Rattle.columns.specs.Cells.{Side, type_of, Cell, cells_from, read_cell, cells_of}
+use Rattle.columns.specs.code.ColumnAnswers.{columns_in, no_column, column_at, encoded, checked, values_result}
 use Rattle.columns.specs.laws.ColumnLaws.{columns_good}
 use Rattle.columns.specs.declared.cells.Checked.{Checked}
 use Rattle.columns.specs.declared.cells.Checked.TheVariants.{Good, NotUtf8, Malformed}
 use Rattle.columns.specs.declared.cells.ValuesResult.{ValuesResult}
 use Rattle.columns.specs.declared.cells.ValuesResult.TheVariants as values-result
 
--- ---- the type of a value, by what `fields_at` and `result_type` say of its column
-module _ {f : Fields} (d : Column) (is : f ≡ fields_of d.head) where
-  pub row_type : f.column ≡ type_of rows d
-  row_type = ap (λ (g : Fields). g.column) is
-
-  module _ {r : TypeResult} (told : r ≡ type_result (result_type f.transform f.column)) where
-    part_told : r ≡ type_result (result_type d.head.transform d.head.column)
-    part_told = rw is at told
-
-    pub part_type : (to : PrimitiveType) → r ≡ type-result.Ok to → to ≡ type_of parts d
-    part_type to e = rw (type_told (result_type d.head.transform d.head.column) (ok to) part_told e)
-
-    pub column_type : (k : ErrorKind) → r ≡ type-result.Err k → f.column ≡ type_of parts d
-    column_type k e = rw (type_told (result_type d.head.transform d.head.column) (err k) part_told e) row_type
-
 -- ---- one value, by what `read_value` says of its record
 pub record ReadAs (column : PrimitiveType) (v : List ℕ) (k : ℕ) (r : ValueResult) : Type 0 where
   pub told : r ≡ value_result (value (layout column) (record_at v k))
+
+-- the part that was read is the record
+pub read_as : (column : PrimitiveType) (v : List ℕ) (k : ℕ) {r : ValueResult}
+    → r ≡ value_result (value (layout column) (take (record_size * k + record_size - record_size * k) (drop (record_size * k) v)))
+    → ReadAs column v k r
+read_as column v k e =
+    let size : record_size * k + record_size - record_size * k ≡ record_size = omega arith in
+    record { told = rw size at e }
 
 -- the record alone has its value in its own record 0
 alone : (v : List ℕ) (k : ℕ) → record_at (record_at v k) 0 ≡ record_at v k
 alone v k = take-take record_size record_size (drop (record_size * k) v) (omega arith)
 
 module _ {column : PrimitiveType} {v : List ℕ} {k : ℕ} {r : ValueResult} (h : ReadAs column v k r) where
-  pub missing_checked : r ≡ value-result.Missing → Good ≡ checked column (value (layout column) (record_at v k))
-  missing_checked is = rw ((missing_read column (record_at v k) h.told is).is, or-true (not (same_type column String)))
-
-  pub refused_checked : {e : ErrorKind} → r ≡ value-result.Err e → Malformed ≡ checked column (value (layout column) (record_at v k))
-  refused_checked is = rw (value_refused column (record_at v k) h.told is)
-
   module _ (is : r ≡ value-result.Present) where
     pub present_short : length_in (record_at v k) ≤ content_size
     present_short = rw (alone v k) at ((present_read column (record_at v k) h.told is).content refl).short
@@ -183,8 +163,3 @@ module _ {side : Side} {c v : List ℕ} {count : ℕ} (is : count ≡ length (co
 
     pub other_told : r ≡ NotUtf8 → Told side c v count false (k + 1)
     other_told e = rw (and-false t) at (one_told false e)
-
-  pub all_told : count ≤ k → cond t values-result.Ok (values-result.Err error.NotUtf8) ≡ values_result (cells_of side c v)
-  all_told more =
-      let end : drop k (columns_in c) ≡ [] = drop_of_length-le (columns_in c) {i = k} (omega arith) in
-      rw (← and-true t) (rw end at h.same)

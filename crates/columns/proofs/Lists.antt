@@ -2,28 +2,26 @@
 use Prim.Native.Nat.{ℕ, suc, ◌+◌, ◌*◌, ◌≤◌, ◌<◌}
 use native.Mathlib.Numerals.{add-one}
 use native.Mathlib.Omega.{arith}
-use mathlib.Core.Bool.{Bool, true, false, not, cond, and-false}
+use mathlib.Core.Bool.{Bool, true, false, cond, and-false}
 use mathlib.Core.List.{List, [], ◌∷◌}
 use mathlib.Core.Path.{◌≡◌, refl, sym, ap, ◌∙◌}
 use lib.Dec.{ltb}
 use lib.ListN.{length, drop, get_or, length-drop, length-map, drop_of_length-le, get_or-map}
 use lib.Seq.{length-take-le, drop-cons, get_or-take, get_or-drop}
-use borrow.Author.Tests.{lt-ltb, le-ltb, ne_eqb}
+use borrow.Author.Tests.{lt-ltb, le-ltb}
 use Rattle.values.specs.Ascending.{elem}
 use Rattle.values.specs.Characters.{is_letter, leading}
 use Rattle.values.specs.Order.{compare_bytes, is_equal}
-use Rattle.values.specs.Outcomes.{Res, ok, err}
-use Rattle.values.specs.Words.{word}
 use Rattle.values.specs.laws.OrderLaws.{is_equal_lem, bytes_order}
-use Rattle.values.specs.laws.TestLaws.{refuted, called_no, called_yes}
+use Rattle.values.specs.laws.TestLaws.{refuted}
 use Rattle.values.specs.declared.error.ErrorKind.{ErrorKind}
 use Rattle.sheet.specs.Records.{record_size}
-use Rattle.sheet.specs.Sheets.{Head, fields}
+use Rattle.sheet.specs.Sheets.{fields}
 use Rattle.sheet.specs.code.ReadAnswers.{is_ok, fields_result}
 use Rattle.sheet.specs.declared.head.Fields.{Fields}
 use Rattle.sheet.specs.declared.head.FieldsResult.{FieldsResult}
 use Rattle.sheet.specs.declared.head.FieldsResult.TheVariants as fields-result
-use Rattle.columns.specs.Columns.{name_size, entry_size, plain_head, first_numbers}
+use Rattle.columns.specs.Columns.{name_size, entry_size, first_numbers}
 use Rattle.columns.specs.code.ColumnAnswers.{name_bytes, name_at, head_bytes, read_entry, first_names, good_to, columns_in, column_at, fields_of, place_among}
 use Rattle.columns.specs.laws.ColumnLaws.{Listed, good_next, good_all}
 use Rattle.columns.specs.laws.EachLaws.{first_length, first_at}
@@ -33,25 +31,6 @@ use Rattle.columns.specs.laws.NameLaws.{place_elem}
 
 pub head_whole : (c : List ℕ) (k : ℕ) → entry_size * (k + 1) ≤ length c → record_size ≤ length (head_bytes c k)
 head_whole c k there = omega (arith, length-take-le record_size (drop (entry_size * k + name_size) c) (rw length-drop (omega arith)))
-
-module _ (head : List ℕ) {n : ℕ} (next : n ≡ word 0 2 head) where
-  pub has_next : (n ≡ 0 → ⊥) → false ≡ is_ok (plain_head head)
-  has_next some = rw (← next, ne_eqb n 0 some)
-
-  module _ (none : n ≡ 0) {o : ℕ} (operator : o ≡ word 2 2 head) where
-    pub has_operator : (o ≡ 0 → ⊥) → false ≡ is_ok (plain_head head)
-    has_operator some = rw (← next, none, ← operator, ne_eqb o 0 some)
-
-    pub by_fields : o ≡ 0 → is_ok (plain_head head) ≡ is_ok (fields head)
-    by_fields plain = rw (← next, none, ← operator, plain)
-
-pub fields_there : (x : Res Head) {r : FieldsResult} → r ≡ fields_result x → (f : Fields) → r ≡ fields-result.Ok f → true ≡ is_ok x
-fields_there (ok h) told f is = refl
-fields_there (err k) told f is = cc
-
-pub fields_refused : (x : Res Head) {r : FieldsResult} → r ≡ fields_result x → (e : ErrorKind) → r ≡ fields-result.Err e → false ≡ is_ok x
-fields_refused (ok h) told e is = cc
-fields_refused (err k) told e is = refl
 
 -- what is read of the head of a column in a good list
 module _ (c : List ℕ) (k : ℕ) (h : Listed c k) {r : FieldsResult} (told : r ≡ fields_result (fields (head_bytes c k))) where
@@ -121,12 +100,9 @@ module _ (c : List ℕ) (count : ℕ) where
 
 -- ---- columns
 
-pub all_good : (c : List ℕ) (count k : ℕ) → good_to c k ≡ true → k ≤ count → count ≤ k → true ≡ good_to c count
-all_good c count k e h less = let same : count ≡ k = omega arith in rw same (sym e)
-
 module _ (c : List ℕ) (count k : ℕ) (less : k < count) where
-  pub no_column_lem : {r : Bool} → r ≡ is_ok (read_entry c k) → not r ≡ true → false ≡ good_to c count
-  no_column_lem is e = sym (good_all c count k less (rw (called_no _ _ is e)))
+  pub no_column_lem : {r : Bool} → r ≡ is_ok (read_entry c k) → r ≡ false → false ≡ good_to c count
+  no_column_lem is e = sym (good_all c count k less (rw (sym is ∙ e)))
 
   module _ {name : List ℕ} (own : name ≡ name_at c k) {place : ℕ} (told : place ≡ place_among name (first_names c k)) where
     among : {t : Bool} → ltb place k ≡ t → elem compare_bytes (name_at c k) (first_names c k) ≡ t
@@ -137,5 +113,5 @@ module _ (c : List ℕ) (count k : ℕ) (less : k < count) where
     pub name_before : place < k → false ≡ good_to c count
     name_before h = sym (good_all c count k less (rw (among (lt-ltb place k h)) (and-false (is_ok (read_entry c k)))))
 
-    pub good_here : good_to c k ≡ true → {r : Bool} → r ≡ is_ok (read_entry c k) → not r ≡ false → k ≤ place → good_to c (k + 1) ≡ true
-    good_here before is e h = rw (add-one, good_next c k, before, called_yes _ _ is e, among (le-ltb place k h))
+    pub good_here : good_to c k ≡ true → {r : Bool} → r ≡ is_ok (read_entry c k) → r ≡ true → k ≤ place → good_to c (k + 1) ≡ true
+    good_here before is e h = rw (add-one, good_next c k, before, sym is ∙ e, among (le-ltb place k h))

@@ -1,11 +1,11 @@
 -- The name of an entry, letter by letter, and the tests of a name. Assumes nothing.
 use Prim.Native.Nat.{ℕ, ◌+◌, ◌-◌, ◌*◌, ◌≤◌, ◌<◌}
 use native.Mathlib.Omega.{arith}
-use mathlib.Core.Bool.{Bool, true, false, not, ◌&&◌, ◌||◌, and-false, or-false}
-use mathlib.Core.List.{List, []}
+use mathlib.Core.Bool.{Bool, true, false, not, ◌&&◌, and-false}
+use mathlib.Core.List.{List}
 use mathlib.Core.Path.{◌≡◌, refl, sym, ap, ◌∙◌}
 use lib.Dec.{ltb}
-use lib.ListN.{length, take, drop, get_or, length-append, length-drop, drop_of_length-le}
+use lib.ListN.{length, take, drop, get_or, length-append, length-drop}
 use lib.Seq.{length-take-le, take_at, take-take, get_or-take, get_or-drop}
 use borrow.Author.Tests.{lt-ltb}
 use Rattle.values.specs.Ascending.{elem}
@@ -49,11 +49,6 @@ module _ (c : List ℕ) (k : ℕ) (there : entry_size * (k + 1) ≤ length c) wh
           let stops = leading_stops is_letter (name_bytes c k) n (ap is_letter byte_here ∙ e) in
           omega (arith, h.counted, ap length stops)
 
-    pub full_counted : name_size ≤ n → n ≡ length (name_at c k)
-    full_counted more =
-        let end : drop n (name_bytes c k) ≡ [] = drop_of_length-le (name_bytes c k) {i = n} (omega (arith, bytes_length)) in
-        omega (arith, h.counted, ap (λ l. length (leading is_letter l)) end)
-
   name_fits : length (name_at c k) ≤ name_size
   unfolding name_at
   name_fits = omega (arith, bytes_length, simp length-append at (ap length (leading_following is_letter (name_bytes c k))))
@@ -94,15 +89,3 @@ module _ (c : List ℕ) (k : ℕ) (there : entry_size * (k + 1) ≤ length c) wh
     by_word some z e =
         let size : entry_size * k + n - entry_size * k ≡ n = omega arith in
         rw (e, name_tested, ← is, lt-ltb 0 n (omega arith), z, size, is, name_part)
-
--- ---- a name tested against one word after another
-pub this_word : (a b : Bool) {r : Bool} → r ≡ a → r ≡ true → true ≡ (a || b)
-this_word a b is h = rw (← is, h)
-
-pub next_word : (a b : Bool) {r t : Bool} → r ≡ a → r ≡ false → t ≡ b → t ≡ (a || b)
-next_word a b is h e = rw (← is, h) e
-
-pub last_word : (a : Bool) {r : Bool} → r ≡ a → r ≡ (a || false)
-last_word a is = is ∙ sym (or-false a)
-
-pub ruleset words = (this_word, next_word, last_word)

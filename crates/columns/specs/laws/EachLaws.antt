@@ -1,9 +1,9 @@
 -- Every member of a list in its turn, by places, and the first numbers, by which a list's entries are told. Assumes nothing.
-use Rattle.std.specs.Prelude.{ℕ, zero, suc, ◌+◌, ◌<◌, Bool, true, false, ◌&&◌, List, [], ◌∷◌, ◌++◌, map, ◌≡◌, refl, ltb, length, get_or}
+use Rattle.std.specs.Prelude.{ℕ, zero, suc, ◌<◌, Bool, true, false, ◌&&◌, List, [], ◌∷◌, ◌++◌, map, ◌≡◌, refl, ltb, length, get_or}
 use Rattle.std.proofs.Common.{arith, ◌∙◌, length-append, ltb-true, ltb-false}
 use Rattle.std.proofs.Math.ListN.{get_or-append}
 use Rattle.std.proofs.lemmas.List.{get_or_at}
-use Rattle.values.specs.Outcomes.{Res, ok, err, each, ◌>>=◌, ◌>>◌}
+use Rattle.values.specs.Outcomes.{Res, ok, err, each, ◌>>=◌}
 use Rattle.values.specs.laws.OutcomeLaws.{ok_inj, each_cons}
 use Rattle.sheet.specs.code.ReadAnswers.{is_ok}
 use Rattle.columns.specs.Columns.{first_numbers}

@@ -1,10 +1,9 @@
 -- Names that stand apart, and the place of a name among others. Assumes nothing.
-use Rattle.std.specs.Prelude.{ℕ, suc, ◌+◌, Bool, true, false, not, cond, ◌&&◌, ◌||◌, List, [], ◌∷◌, ◌++◌, ◌≡◌, refl, ltb, leb, length}
+use Rattle.std.specs.Prelude.{ℕ, suc, Bool, true, false, not, cond, ◌&&◌, ◌||◌, List, [], ◌∷◌, ◌++◌, ◌≡◌, refl, ltb, length}
 use Rattle.std.proofs.Common.{arith, sym, ap, ◌∙◌, lt-ltb}
 use Rattle.std.proofs.Math.Dec.{leb-suc-suc}
 use Rattle.values.specs.Ascending.{elem}
 use Rattle.values.specs.Order.{compare_bytes, is_equal}
-use Rattle.values.specs.Outcomes.{◌>>=◌, ◌>>◌}
 use Rattle.values.specs.code.Places.{flip}
 use Rattle.values.specs.laws.AscendingLaws.{elem_append}
 use Rattle.values.specs.laws.OrderLaws.{bytes_order}
