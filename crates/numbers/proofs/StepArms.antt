@@ -2,14 +2,12 @@
 use Prim.Native.Nat.{ℕ}
 use mathlib.Core.Bool.{Bool, true, false, cond}
 use mathlib.Core.List.{[], ◌∷◌, map}
-use mathlib.Core.Logic.{⊎_elim}
 use mathlib.Core.Path.{◌≡◌, refl, sym, ap, ◌∙◌}
 use lib.IntN.{ℤ, pos, negsuc, suc_ℤ, pred_ℤ, ◌+ℤ◌, ◌-ℤ◌, +ℤ_one, -ℤ_one}
 use lib.Signed.{◌≤ℤ◌, ◌<ℤ◌}
 use mir.Syntax.{w64}
 use mir.Val.{SFits, to_z, of_z}
 use types.Run.{OneOf}
-use denote.Enum.Declared.{tag_of}
 use Rattle.values.specs.laws.IntLaws.{ints}
 use Rattle.values.specs.laws.SignedLaws.{back}
 use Rattle.values.specs.Outcomes.{Res, ok, err, ◌>>=◌, Row, missing, present}
@@ -41,10 +39,8 @@ use Rattle.projection.specs.Steps.{some, mapped, value_in}
 use Rattle.numbers.specs.declared.steps.Boundary.{Boundary}
 use Rattle.numbers.specs.declared.steps.Boundary.TheVariants as boundary
 use Rattle.numbers.specs.declared.steps.NumberProjection.{NumberProjection}
-use Rattle.projection.proofs.QuestionArms.{strict_tags, strict_question}
-use Rattle.projection.specs.contracts.question.Question.{the_type}
 use Rattle.projection.specs.declared.question.Question.{Question}
-use Rattle.projection.specs.declared.question.Question.TheVariants.{Inclusive}
+use Rattle.projection.specs.declared.question.Question.TheVariants.{Inclusive, Strict, Older}
 
 -- v as a local holds it: `seen v` is v where 64 bits hold v
 abbrev pub seen : ℤ → ℤ
@@ -237,7 +233,8 @@ module _ (column : PrimitiveType) (transform : Transform) (o : PredicateOperator
   strict_leaf raised d is = d ∙ rw (is, back f)
 
 -- a question that is not inclusive
-pub not_inclusive_leaf : (question : Question) (column : PrimitiveType) (transform : Transform) (a : Operator) (l : ℤ) → OneOf strict_tags (tag_of the_type question)
+pub not_inclusive_leaf : (question : Question) (column : PrimitiveType) (transform : Transform) (a : Operator) (l : ℤ) → (question ≡ Inclusive → ⊥)
     → at_boundary (lifts_for question column transform) (number_under column transform) (strict_boundary column a l) ≡ number_leaf question column transform a l
-not_inclusive_leaf question column transform a l m =
-    ⊎_elim (λ is. rw is (sym (strict_at column transform a l))) (λ is. rw is (sym (older_at column transform a l))) (strict_question question m)
+not_inclusive_leaf Inclusive column transform a l n = absurd (n refl)
+not_inclusive_leaf Strict column transform a l n = sym (strict_at column transform a l)
+not_inclusive_leaf Older column transform a l n = sym (older_at column transform a l)
