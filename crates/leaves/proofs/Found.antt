@@ -1,4 +1,5 @@
 -- What is known of a text by the kind of the token that the code found it to begin with. Assumes nothing.
+use Rattle.std.proofs.Common.{◌≢◌}
 use Prim.Native.Nat.{ℕ, ◌-◌}
 use mathlib.Core.Bool.{Bool, true, false, cond}
 use mathlib.Core.List.{List, [], ◌∷◌}
@@ -31,6 +32,17 @@ is_end Quoted = false
 is_end Opening = false
 is_end Closing = false
 is_end Unreadable = false
+
+pub not_end : (k : TokenKind) → k ≢ End → is_end k ≡ false
+not_end End n = absurd (n refl)
+not_end Word n = refl
+not_end Sign n = refl
+not_end Decimal n = refl
+not_end TooLarge n = refl
+not_end Quoted n = refl
+not_end Opening n = refl
+not_end Closing n = refl
+not_end Unreadable n = refl
 
 module _ (s : List ℕ) (r : Token) where
   abbrev pub part : List ℕ

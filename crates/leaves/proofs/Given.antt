@@ -214,12 +214,12 @@ module _ (cs : List Column) (s : List ℕ) (from to next : ℕ) (within : next �
   abbrev same : List ℕ → Bool
   same w = is_equal (compare_bytes name w)
 
-  pub and_word_lem : same (ascii "and") ≡ true → FromWord cs s from to next (plain kind.And next)
-  and_word_lem a = rw a (record { is = (refl, refl); forward = λ n. omega arith; within = within })
+  pub and_word : same (ascii "and") ≡ true → FromWord cs s from to next (plain kind.And next)
+  and_word a = rw a (record { is = (refl, refl); forward = λ n. omega arith; within = within })
 
   module _ (a : same (ascii "and") ≡ false) where
-    pub or_word_lem : same (ascii "or") ≡ true → FromWord cs s from to next (plain kind.Or next)
-    or_word_lem o = rw (a, o) (record { is = (refl, refl); forward = λ n. omega arith; within = within })
+    pub or_word : same (ascii "or") ≡ true → FromWord cs s from to next (plain kind.Or next)
+    or_word o = rw (a, o) (record { is = (refl, refl); forward = λ n. omega arith; within = within })
 
     module _ (o : same (ascii "or") ≡ false) where
       pub not_word : same (ascii "not") ≡ true → FromWord cs s from to next (plain kind.Not next)

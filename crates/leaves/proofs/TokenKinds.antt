@@ -1,4 +1,5 @@
 -- Which texts fit a column, and kinds of tokens by what they are not. Assumes nothing.
+use Rattle.std.proofs.Common.{◌≢◌}
 use Prim.Native.Nat.{ℕ, ◌≤◌, ◌<◌}
 use native.Mathlib.Omega.{arith}
 use mathlib.Core.Bool.{Bool, true, false}
@@ -8,7 +9,6 @@ use Rattle.values.specs.Types.{bytes, layout, content_size}
 use Rattle.values.specs.laws.TestLaws.{clash, refuted}
 use Rattle.values.specs.declared.datatypes.PrimitiveType.{PrimitiveType}
 use Rattle.values.specs.declared.datatypes.PrimitiveType.TheVariants as type
-use Rattle.expr.specs.Operators.{Binary}
 use Rattle.tokens.specs.declared.token.TokenKind.{TokenKind}
 use Rattle.tokens.specs.declared.token.TokenKind.TheVariants.{End, Word, Sign, Decimal, TooLarge, Quoted, Opening, Closing, Unreadable}
 use Rattle.leaves.specs.Fitting.{fits_length}
@@ -62,3 +62,37 @@ no_symbol Quoted = true
 no_symbol Opening = false
 no_symbol Closing = false
 no_symbol Unreadable = true
+
+-- a kind that is none of those that the function names
+pub literal_not : (k : TokenKind) → k ≢ Decimal → k ≢ Quoted → no_literal k ≡ true
+literal_not End a b = refl
+literal_not Word a b = refl
+literal_not Sign a b = refl
+literal_not Decimal a b = absurd (a refl)
+literal_not TooLarge a b = refl
+literal_not Quoted a b = absurd (b refl)
+literal_not Opening a b = refl
+literal_not Closing a b = refl
+literal_not Unreadable a b = refl
+
+pub operator_not : (k : TokenKind) → k ≢ Sign → k ≢ Word → no_operator k ≡ true
+operator_not End a b = refl
+operator_not Word a b = absurd (b refl)
+operator_not Sign a b = absurd (a refl)
+operator_not Decimal a b = refl
+operator_not TooLarge a b = refl
+operator_not Quoted a b = refl
+operator_not Opening a b = refl
+operator_not Closing a b = refl
+operator_not Unreadable a b = refl
+
+pub symbol_not : (k : TokenKind) → k ≢ End → k ≢ Word → k ≢ Opening → k ≢ Closing → no_symbol k ≡ true
+symbol_not End a b c d = absurd (a refl)
+symbol_not Word a b c d = absurd (b refl)
+symbol_not Sign a b c d = refl
+symbol_not Decimal a b c d = refl
+symbol_not TooLarge a b c d = refl
+symbol_not Quoted a b c d = refl
+symbol_not Opening a b c d = absurd (c refl)
+symbol_not Closing a b c d = absurd (d refl)
+symbol_not Unreadable a b c d = refl

@@ -26,8 +26,8 @@ joins w = is_equal (compare_bytes w (ascii "and")) || is_equal (compare_bytes w 
 
 pub data TextIs (cs : List Column) : List ℕ → List (Symbol Leaf) → Type 0 where
   no_symbol : {s : List ℕ} → every is_space s ≡ true → TextIs cs s []
-  and_word_lem : {s rest : List ℕ} {ys : List (Symbol Leaf)} → Spaced s (tokens.word (ascii "and")) rest → TextIs cs rest ys → TextIs cs s (grammar.and_word ∷ ys)
-  or_word_lem : {s rest : List ℕ} {ys : List (Symbol Leaf)} → Spaced s (tokens.word (ascii "or")) rest → TextIs cs rest ys → TextIs cs s (grammar.or_word ∷ ys)
+  and_word : {s rest : List ℕ} {ys : List (Symbol Leaf)} → Spaced s (tokens.word (ascii "and")) rest → TextIs cs rest ys → TextIs cs s (grammar.and_word ∷ ys)
+  or_word : {s rest : List ℕ} {ys : List (Symbol Leaf)} → Spaced s (tokens.word (ascii "or")) rest → TextIs cs rest ys → TextIs cs s (grammar.or_word ∷ ys)
   not_word : {s rest : List ℕ} {ys : List (Symbol Leaf)} → Spaced s (tokens.word (ascii "not")) rest → TextIs cs rest ys → TextIs cs s (grammar.not_word ∷ ys)
   opening : {s rest : List ℕ} {ys : List (Symbol Leaf)} → Spaced s tokens.opening rest → TextIs cs rest ys → TextIs cs s (grammar.opening ∷ ys)
   closing : {s rest : List ℕ} {ys : List (Symbol Leaf)} → Spaced s tokens.closing rest → TextIs cs rest ys → TextIs cs s (grammar.closing ∷ ys)

@@ -22,7 +22,7 @@ use Rattle.leaves.specs.Fitting.{Leaf, leaf_of}
 use Rattle.leaves.specs.Symbols.{Read, read, unread, or_else, on_taken, after_spaces, as_operator, as_literal}
 use Rattle.leaves.specs.Symbols.{leaf_after, of_word, of_token, symbol, first_then, symbols}
 use Rattle.leaves.specs.TextIs.{Spaced, at_once, after_space, joins, is_read, SymbolsMean}
-use Rattle.leaves.specs.TextIs.{TextIs, no_symbol, and_word_lem, or_word_lem, not_word, opening, closing, a_leaf}
+use Rattle.leaves.specs.TextIs.{TextIs, no_symbol, and_word, or_word, not_word, opening, closing, a_leaf}
 use Rattle.leaves.specs.laws.SymbolLaws.{ReadLeaves, symbol_leaves, symbols_none, symbols_first}
 
 -- ---- spaces, and then a token
@@ -120,8 +120,8 @@ module _ (cs : List Column) where
       go : (a : Bool) → is_equal (compare_bytes w (ascii "and")) ≡ a → (b : Bool) → is_equal (compare_bytes w (ascii "or")) ≡ b
           → (c : Bool) → is_equal (compare_bytes w (ascii "not")) ≡ c
           → Reads s (cond a (read grammar.and_word u) (cond b (read grammar.or_word u) (cond c (read grammar.not_word u) (leaf_after cs w u))))
-      go true e b f c g = λ r ys. and_word_lem (spelled (ascii "and") e)
-      go false e true f c g = λ r ys. or_word_lem (spelled (ascii "or") f)
+      go true e b f c g = λ r ys. and_word (spelled (ascii "and") e)
+      go false e true f c g = λ r ys. or_word (spelled (ascii "or") f)
       go false e false f true g = λ r ys. not_word (spelled (ascii "not") g)
       go false e false f false g = leaf_reads s w u d (rw (e, f, g))
 
@@ -188,8 +188,8 @@ module _ (cs : List Column) where
   text_found : {s : List ℕ} {ys : List (Symbol Leaf)} → TextIs cs s ys → Is s ys
   unfolding compare_bytes
   text_found (no_symbol {s} e) = (symbols_none cs s (only_spaces s e), refl)
-  text_found (and_word_lem d after) = then_is d refl refl (text_found after)
-  text_found (or_word_lem d after) = then_is d refl refl (text_found after)
+  text_found (and_word d after) = then_is d refl refl (text_found after)
+  text_found (or_word d after) = then_is d refl refl (text_found after)
   text_found (not_word d after) = then_is d refl refl (text_found after)
   text_found (opening d after) = then_is d refl refl (text_found after)
   text_found (closing d after) = then_is d refl refl (text_found after)
