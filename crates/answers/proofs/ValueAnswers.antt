@@ -24,7 +24,7 @@ use Rattle.partition.specs.declared.number.NumberResult.{NumberResult}
 use Rattle.partition.specs.declared.number.NumberResult.TheVariants as number_result_lem
 use Rattle.projection.proofs.LandingLaws.{number_partition_lands}
 use Rattle.sheet.specs.laws.RecordLaws.{fits_room, number_type}
-use Rattle.sheet.specs.Records.{record_size, value}
+use Rattle.sheet.specs.Records.{record_size}
 use Rattle.sets.specs.laws.TransformedLaws.{value_said_lem}
 use Rattle.write.specs.laws.RoundTripLaws.{length_literal}
 use Rattle.write.specs.laws.WriteLaws.{length_number}

@@ -1,4 +1,6 @@
 // What a leaf and a row are answered: the steps, and their result written into a lent buffer.
+#![tactic(auto)]
+
 pub mod answer;
 pub mod leaf;
 pub mod number;
