@@ -1,7 +1,6 @@
 -- What a match on the operator returns in each arm, where some number between the ends is asked for. Assumes nothing.
-use Rattle.std.proofs.Common.{◌≡◌, ℕ, ◌<◌, ◌≤◌, Bool, true, false, not, ◌||◌, eqb, List, [], ◌∷◌, map, length, get_or, take, ℤ, pos, ◌≤ℤ◌, sym, refl, ap, ◌∙◌, w64, SFits, to_z, of_z, eqb-true}
-use lib.Seq.{slice, slice-cons}
-use types.Run.{OneOf}
+use Rattle.std.proofs.Common.{◌≡◌, ◌≢◌, ℕ, ◌<◌, ◌≤◌, Bool, true, false, not, ◌||◌, List, map, length, get_or, take, ℤ, pos, ◌≤ℤ◌, sym, refl, ap, ◌∙◌, w64, SFits, to_z, of_z, eqb-true}
+use lib.Seq.{slice-cons}
 use Rattle.values.specs.SomeEvery.{some, every}
 use Rattle.values.specs.Ascending.{elem}
 use Rattle.values.specs.Order.{compare_numbers}
@@ -9,31 +8,37 @@ use Rattle.values.specs.laws.IntLaws.{ints}
 use Rattle.values.specs.laws.SignedLaws.{back}
 use Rattle.values.specs.laws.TestLaws.{refuted, clash, not_not}
 use Rattle.expr.specs.Holds.{number_tests, present_meets}
-use Rattle.expr.specs.Operators.{Operator, none, one, many, eq, by_arity, operator_of, operator_number}
+use Rattle.expr.specs.Operators.{Operator, none, one, many, eq, by_arity}
 use Rattle.expr.specs.code.OperatorAnswers.{meets_one, takes, leaf_of}
 use Rattle.expr.specs.declared.operator.PredicateOperator.{PredicateOperator}
-use Rattle.expr.specs.declared.operator.PredicateOperator.TheVariants.{IsNull, NotNull, IsNan, NotNan, Eq, In, NotIn}
-use Rattle.expr.proofs.OperatorArms.{position, but, agree}
-use Rattle.meets.proofs.HeldArms.{taking_one}
+use Rattle.expr.specs.declared.operator.PredicateOperator.TheVariants.{IsNull, NotNull, IsNan, NotNan, LessThan, LessThanOrEq, GreaterThan, GreaterThanOrEq, Eq, NotEq, StartsWith, NotStartsWith, In, NotIn}
+use Rattle.meets.proofs.HeldArms.{TakesOne}
 use Rattle.summary.specs.EndValues.{lies_in}
 use Rattle.summary.specs.Summaries.{◌to◌}
 use Rattle.ends.specs.Between.{between}
 use Rattle.ends.specs.laws.BetweenLaws.{some_between, some_equal, some_member, by_both_ends}
 use Rattle.values.specs.laws.SomeLaws.{every_some}
 
--- all but Eq: for them the ends decide
-abbrev but_eq : List PredicateOperator
-but_eq = but (Eq ∷ [])
-
-not_eq : (o : PredicateOperator) → OneOf (map position but_eq) (position o) → by_arity o ≡ one eq → ⊥
-not_eq o m e =
-    clash
-    (ap (λ a. eqb (operator_number (operator_of a)) (operator_number Eq)) e)
-    (agree (λ p. eqb (operator_number (operator_of (by_arity p))) (operator_number Eq)) (λ p. false) but_eq o m refl)
+-- for all but Eq the ends decide
+not_eq : (o : PredicateOperator) → o ≢ Eq → by_arity o ≢ one eq
+not_eq IsNull n e = cc
+not_eq NotNull n e = cc
+not_eq IsNan n e = cc
+not_eq NotNan n e = cc
+not_eq LessThan n e = cc
+not_eq LessThanOrEq n e = cc
+not_eq GreaterThan n e = cc
+not_eq GreaterThanOrEq n e = cc
+not_eq Eq n e = n refl
+not_eq NotEq n e = cc
+not_eq StartsWith n e = cc
+not_eq NotStartsWith n e = cc
+not_eq In n e = cc
+not_eq NotIn n e = cc
 
 -- exactly one literal
-pub one_literal : (o : PredicateOperator) (count : ℕ) → OneOf (map position taking_one) (position o) → takes (by_arity o) count ≡ true → count ≡ 1
-one_literal o count m e = eqb-true count 1 (sym (agree (λ p. takes (by_arity p) count) (λ p. eqb count 1) taking_one o m refl) ∙ e)
+pub one_literal : {o : PredicateOperator} (count : ℕ) → TakesOne o → takes (by_arity o) count ≡ true → count ≡ 1
+one_literal count m e = eqb-true count 1 (rw m.is at e)
 
 module _ {low high : ℤ} (h : low ≤ℤ high) where
   none_met : some (λ (v : ℤ). false) (between low high) ≡ false
@@ -54,7 +59,7 @@ module _ {low high : ℤ} (h : low ≤ℤ high) where
         → r ≡ some (λ v. meets_one number_tests (by_arity o) v l) (between low high)
     equal_met is e = rw is (e ∙ sym (some_equal l low high h))
 
-    module _ (m : OneOf (map position but_eq) (position o)) where
+    module _ (m : o ≢ Eq) where
       pub low_met : meets_one number_tests (by_arity o) low l ≡ true → true ≡ some (λ v. meets_one number_tests (by_arity o) v l) (between low high)
       low_met e = sym (by_ends (by_arity o) l (not_eq o m) ∙ rw e)
 
@@ -86,18 +91,9 @@ module _ {low high : ℤ} (h : low ≤ℤ high) where
     no_member is e = rw is (ap not (e ∙ every_some (λ v. elem compare_numbers v ls) (between low high)) ∙ not_not _)
 
 -- of the literals in records the first counts
-pub with_literal_lem : (o : PredicateOperator) → OneOf (map position taking_one) (position o) → (f : ℕ → ℤ) (records : List ℕ) (count : ℕ) (xs : List ℤ)
+pub with_literal_lem : {o : PredicateOperator} → TakesOne o → (f : ℕ → ℤ) (records : List ℕ) (count : ℕ) (xs : List ℤ)
     → 0 < count → count ≤ length records → {l : ℤ} → l ≡ f (get_or records 0 0) → {r : Bool} → r ≡ some (λ v. meets_one number_tests (by_arity o) v l) xs
     → r ≡ some (present_meets number_tests (leaf_of (pos 0) (by_arity o) (map f (take count records)))) xs
-with_literal_lem o m f records count xs there room {l} is e =
-    e
-    ∙ rw (slice-cons 0 count records 0 there room, ← is)
-    (agree
-    (λ p. some (λ v. meets_one number_tests (by_arity p) v l) xs)
-    (λ p. some (present_meets number_tests (leaf_of (pos 0) (by_arity p) (l ∷ map f (slice 1 count records)))) xs)
-    taking_one
-    o
-    m
-    refl)
+with_literal_lem m f records count xs there room is e = rw (slice-cons 0 count records 0 there room, ← is, m.is) (rw m.is at e)
 
 pub ruleset arms = (null_no, null_yes, nan_no, nan_yes)

@@ -1,14 +1,13 @@
 -- A loop from the lowest number to the highest that tests each: the numbers from v on answer for all of them. Assumes nothing.
-use Rattle.std.proofs.Common.{◌≡◌, ◌<◌, Bool, true, false, not, ◌&&◌, ℤ, pos, ◌+ℤ◌, ◌-ℤ◌, nat_abs, ◌≤ℤ◌, ◌<ℤ◌, sym, refl, ap, ◌∙◌, w64, SFits, to_z, of_z}
+use Rattle.std.proofs.Common.{◌≡◌, Bool, true, false, ◌&&◌, ℤ, pos, ◌+ℤ◌, ◌≤ℤ◌, ◌<ℤ◌, sym, ap, ◌∙◌, w64, SFits, to_z, of_z}
 use mathlib.Core.Bool.{and-true}
 use lib.IntN.{suc_ℤ, +ℤ_one}
 use lib.Signed.{lt_z}
-use borrow.Author.Tests.{not-true, not-false}
 use Rattle.values.specs.SomeEvery.{every}
 use Rattle.values.specs.laws.IntLaws.{ints, orders, range, fits, plus, lt_true, lt_false, ≤ℤ_antisym}
 use Rattle.values.specs.laws.SignedLaws.{back}
 use Rattle.ends.specs.Between.{between}
-use Rattle.ends.specs.laws.BetweenLaws.{distance, between_self, between_less}
+use Rattle.ends.specs.laws.BetweenLaws.{between_self, between_less}
 
 -- v lies between the ends, and the tests from v on say what all of them say
 pub record Scanned (test : ℤ → Bool) (low high v : ℤ) : Type 0 where
@@ -18,9 +17,6 @@ pub record Scanned (test : ℤ → Bool) (low high v : ℤ) : Type 0 where
 
 -- the ends are locals, which are read back from their bits
 module _ {low high : ℤ} (f : SFits w64 low) (g : SFits w64 high) {test : ℤ → Bool} where
-  pub at_first : low ≤ℤ high → Scanned test (to_z w64 (of_z w64 low)) (to_z w64 (of_z w64 high)) (to_z w64 (of_z w64 low))
-  at_first h = rw (back f, back g) (record { from = omega ints; up_to = h; same = refl })
-
   module _ {v : ℤ} (scanned : Scanned test (to_z w64 (of_z w64 low)) (to_z w64 (of_z w64 high)) v) where
     seen : Scanned test low high v
     seen = rw (back f, back g) at scanned
@@ -39,20 +35,15 @@ module _ {low high : ℤ} (f : SFits w64 low) (g : SFits w64 high) {test : ℤ �
       here : {r : Bool} → r ≡ test v → (r && every test (between (suc_ℤ v) high)) ≡ every test (between low high)
       here e = ap (λ t. t && every test (between (suc_ℤ v) high)) e ∙ ap (every test) (sym (between_less v high less)) ∙ seen.same
 
-      pub fails_here : {r : Bool} → r ≡ test v → not r ≡ true → false ≡ every test (between low high)
-      fails_here {r} e h = here (sym (not-true r h) ∙ e)
+      pub fails_here : {r : Bool} → r ≡ test v → r ≡ false → false ≡ every test (between low high)
+      fails_here e h = here (sym h ∙ e)
 
-      pub next_fits : SFits w64 (v +ℤ pos 1)
+      next_fits : SFits w64 (v +ℤ pos 1)
       next_fits = fits (omega (orders, range f, range g, less, seen.from, plus v (pos 1)))
 
-      pub nearer : nat_abs (to_z w64 (of_z w64 high) -ℤ to_z w64 (of_z w64 (v +ℤ pos 1))) < nat_abs (to_z w64 (of_z w64 high) -ℤ v)
-      nearer =
-          let up_to : (v +ℤ pos 1) ≤ℤ high = omega (ints, less, plus v (pos 1)) in
-          rw (back g, back next_fits) (omega (ints, plus v (pos 1), distance v high seen.up_to, distance (v +ℤ pos 1) high up_to))
-
-      pub passes_here : {r : Bool} → r ≡ test v → not r ≡ false
+      pub passes_here : {r : Bool} → r ≡ test v → r ≡ true
           → Scanned test (to_z w64 (of_z w64 low)) (to_z w64 (of_z w64 high)) (to_z w64 (of_z w64 (v +ℤ pos 1)))
-      passes_here {r} e h =
-          let rest = here (sym (not-false r h) ∙ e) in
+      passes_here e h =
+          let rest = here (sym h ∙ e) in
           rw (back f, back g, back next_fits)
           (record { from = omega (ints, seen.from, plus v (pos 1)); up_to = omega (ints, less, plus v (pos 1)); same = rw (+ℤ_one v) rest })

@@ -99,7 +99,7 @@ pub fn rules_out(x: Sheet, s: &[u8], records: &[u16], low: &[u8], high: &[u8]) -
     requires placed { Placed (layout x.head.column) s.now records.now x.count }
     requires count_value { takes (by_arity x.head.operator) x.count ≡ true }
     requires low_value { is_less (compare_bytes high.now low.now) ≡ false }
-    ensures { result ≡ ruled_out (content_leaf x s.now records.now) (low.now to (λ x. x.now) high.entry) }
+    ensures { result ≡ ruled_out (content_leaf x s.now records.now) (low.now to high.now) }
 {
     let head = x.head;
     let operator = head.operator;

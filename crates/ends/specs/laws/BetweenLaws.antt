@@ -34,6 +34,7 @@ distance v h l =
     omega (ints, a.0, a.1, minus h v)
 
 pub from_in : (z : ℤ) (n : ℕ) (v : ℤ) → Isin v (from z n) → (z ≤ℤ v) × (up v + dn z ≤ up z + dn v + n)
+from_in z zero v (there m) = elim m [ ]
 from_in z zero v (here e) = (omega ints, omega ints)
 from_in z (suc n) v (here e) = (omega ints, omega ints)
 from_in z (suc n) v (there m) = let h = from_in (suc_ℤ z) n v m in (omega (ints, next z), omega (ints, next z))

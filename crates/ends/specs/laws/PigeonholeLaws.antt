@@ -1,5 +1,5 @@
 -- More numbers than literals: they are not all among the literals. Assumes nothing.
-use Rattle.std.specs.Prelude.{◌≡◌, ℕ, zero, suc, ◌<◌, ◌≤◌, false, List, ◌∷◌, length, ℤ, ◌-ℤ◌, ◌≤ℤ◌, ◌≢◌, unsigned_abs, refl}
+use Rattle.std.specs.Prelude.{◌≡◌, ℕ, zero, suc, ◌<◌, ◌≤◌, false, List, [], ◌∷◌, length, ℤ, ◌-ℤ◌, ◌≤ℤ◌, ◌≢◌, unsigned_abs, refl}
 use Rattle.std.proofs.Common.{arith, sym, ap, ◌∙◌}
 use mathlib.Core.List.Memᴰ.{head as here}
 use mathlib.Core.List.Memᴰ.{tail as there}
@@ -25,6 +25,7 @@ module _ {A : Type 0} (x : A) where
     pub others : (v : A) → Isin v ys → (v ≢ x) → Isin v rest
 
   without : (ys : List A) → Isin x ys → Without ys
+  without [] m = elim m [ ]
   without (y ∷ ys) (here is) = record { rest = ys; shorter = refl; others = go }
     where
       go : (v : A) → Isin v (y ∷ ys) → (v ≢ x) → Isin v ys
