@@ -4,18 +4,16 @@ use native.Mathlib.Omega.{arith}
 use mathlib.Core.Bool.{true}
 use mathlib.Core.List.{List, [], ◌∷◌}
 use mathlib.Core.Path.{◌≡◌, refl, sym, ap, ◌∙◌}
+use Rattle.std.specs.Prelude.{◌≢◌}
 use lib.ListN.{length, take}
 use lib.Seq.{length-take-le}
-use types.Run.{OneOf, miss}
-use denote.Enum.Declared.{tag_of}
 use Rattle.values.specs.Outcomes.{Res, ok, err}
 use Rattle.values.specs.Types.{content_size}
 use Rattle.values.specs.Words.{over}
 use Rattle.values.specs.declared.datatypes.PrimitiveType.{PrimitiveType}
 use Rattle.values.specs.declared.error.ErrorKind.{ErrorKind}
 use Rattle.values.specs.declared.transform.Transform.{Transform}
-use Rattle.values.specs.declared.transform.Transform.TheVariants.{Identity}
-use Rattle.values.specs.contracts.transform.Transform as transforms
+use Rattle.values.specs.declared.transform.Transform.TheVariants.{Identity, Truncate}
 use Rattle.partition.specs.ResultType.{result_type}
 use Rattle.expr.specs.Operators.{holds_limit}
 use Rattle.expr.specs.declared.operator.PredicateOperator.{PredicateOperator}
@@ -53,19 +51,16 @@ module _ (to : PrimitiveType) (p : BytesProjection) (l before : List ℕ) where
         e
 
 -- ---- the transforms of `_`, beside Truncate: of a byte string's only Identity has steps
-abbrev other_tags : List ℕ
-other_tags = 0 ∷ 2 ∷ 3 ∷ 4 ∷ 5 ∷ 6 ∷ 7 ∷ []
-
 pub other_identity : (column to : PrimitiveType) → BytesColumn column → (t : Transform) → result_type t column ≡ ok to → has_steps t ≡ true
-    → OneOf other_tags (tag_of transforms.the_type t) → t ≡ Identity
+    → ((width : ℕ) → t ≢ Truncate width) → t ≡ Identity
 other_identity column to bs t result known =
     by_transform_lem
-    (λ t. OneOf other_tags (tag_of transforms.the_type t) → t ≡ Identity)
+    (λ t. ((width : ℕ) → t ≢ Truncate width) → t ≡ Identity)
     column
     to
     bs
     (λ m. refl)
-    (λ width m. absurd (miss other_tags 1 tt m))
+    (λ width m. absurd (m width refl))
     t
     result
     known

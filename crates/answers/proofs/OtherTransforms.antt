@@ -3,6 +3,7 @@ use Prim.Native.Nat.{ℕ}
 use mathlib.Core.Bool.{true, false}
 use mathlib.Core.List.{List, [], ◌∷◌}
 use mathlib.Core.Path.{◌≡◌, refl}
+use Rattle.std.specs.Prelude.{◌≢◌}
 use types.Run.{OneOf, miss}
 use denote.Enum.Declared.{tag_of}
 use Rattle.values.specs.declared.transform.Transform.{Transform}
@@ -11,11 +12,8 @@ use Rattle.values.specs.contracts.transform.Transform.{the_type}
 use Rattle.answers.specs.code.Leaves.{has_steps, is_identity}
 
 -- beside Identity
-abbrev changing_tags : List ℕ
-changing_tags = 1 ∷ 2 ∷ 3 ∷ 4 ∷ 5 ∷ 6 ∷ 7 ∷ []
-
-pub not_identity : (t : Transform) → OneOf changing_tags (tag_of the_type t) → is_identity t ≡ false
-not_identity Identity m = absurd (miss changing_tags 0 tt m)
+pub not_identity : (t : Transform) → t ≢ Identity → is_identity t ≡ false
+not_identity Identity m = absurd (m refl)
 not_identity (Truncate width) m = refl
 not_identity Year m = refl
 not_identity Month m = refl
