@@ -26,7 +26,7 @@ use Rattle.verdict.specs.Judged.{verdict_in, judged}
 use Rattle.verdict.specs.TextVerdicts.{text_verdict}
 use Rattle.verdict.specs.Verdicts.{rows_in, number_verdict}
 use Rattle.verdict.specs.declared.verdict.Verdict.TheVariants.{Skip}
-use Rattle.verdict.specs.laws.JudgedLaws.{judged_checks, judged_as}
+use Rattle.verdict.proofs.JudgedLaws.{judged_checks, judged_as}
 use Rattle.verdict.specs.laws.VerdictLaws.{skip_iff, row_iff, text_skipped, text_skips}
 use Rattle.filedemand.proofs.JoinedEnds.{Narrower}
 use Rattle.filedemand.proofs.NarrowerTexts.{ruled_out_within}

@@ -17,7 +17,7 @@ use Rattle.summary.specs.EndValues.{compare_in, ordered, may_hold}
 use Rattle.summary.specs.Summaries.{Ends, Summary, summary}
 use Rattle.verdict.specs.Judged.{verdict_in}
 use Rattle.verdict.specs.declared.verdict.Verdict.{Verdict}
-use Rattle.verdict.specs.laws.JudgedLaws.{judged_as}
+use Rattle.verdict.proofs.JudgedLaws.{judged_as}
 use Rattle.files.specs.FileDemand.{covers, Covers}
 use Rattle.files.specs.TestSummary.{test_summary}
 

@@ -5,7 +5,6 @@ use mathlib.Core.List.{List, [], map}
 use mathlib.Core.Path.{◌≡◌, refl, sym, ap, ap₂, ◌∙◌}
 use lib.IntN.{pos}
 use lib.ListN.{length, length-map}
-use borrow.Author.Tests.{not-true, not-false}
 use Rattle.values.specs.Order.{compare_numbers}
 use Rattle.values.specs.Outcomes.{Res, ok, need, ◌>>◌}
 use Rattle.values.specs.laws.OutcomeLaws.{need_both}
@@ -36,7 +35,7 @@ use Rattle.verdict.specs.code.VerdictAnswers.{number_ends_at, numbers_judged, by
 use Rattle.verdict.specs.declared.verdict.Verdict.{Verdict}
 use Rattle.verdict.specs.declared.verdict.VerdictResult.{VerdictResult}
 use Rattle.verdict.specs.declared.verdict.VerdictResult.TheVariants as verdict-result
-use Rattle.verdict.specs.laws.JudgedLaws.{judged_checks}
+use Rattle.verdict.proofs.JudgedLaws.{judged_checks}
 
 -- the numbers of contents that are there
 number_ends_lem : (column : PrimitiveType) (n : ℕ) → layout column ≡ number n → (f : List ℕ) (there : Bool) → (there ≡ true → EndsThere (layout column) f)
@@ -84,11 +83,8 @@ module _ (x : Sheet) (s records : List ℕ) (y : Summary) (f : List ℕ) (placed
 
   -- as the two calls for UTF-8 say it
   module _ {b c : Bool} (literals : b ≡ literals_encoded) (encoded : c ≡ ends_encoded) where
-    pub encoded_no : not (b && c) ≡ true → (literals_encoded && ends_encoded) ≡ false
-    encoded_no h = ap₂ ◌&&◌ (sym literals) (sym encoded) ∙ not-true (b && c) h
-
-    pub encoded_yes : not (b && c) ≡ false → (literals_encoded && ends_encoded) ≡ true
-    encoded_yes h = ap₂ ◌&&◌ (sym literals) (sym encoded) ∙ not-false (b && c) h
+    pub encoded_is : {r : Bool} → (b && c) ≡ r → (literals_encoded && ends_encoded) ≡ r
+    encoded_is h = ap₂ ◌&&◌ (sym literals) (sym encoded) ∙ h
 
   pub not_encoded : (literals_encoded && ends_encoded) ≡ false → verdict-result.Err NotUtf8 ≡ verdict_result answer
   not_encoded h = rw (checks, h)

@@ -1,4 +1,3 @@
 -- The laws about the definitions of `verdict`.
 pub mod OperatorVerdictLaws
 pub mod VerdictLaws
-pub mod JudgedLaws

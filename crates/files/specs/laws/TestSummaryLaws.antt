@@ -18,7 +18,7 @@ use Rattle.summary.specs.laws.SummaryLaws.{summary_only}
 use Rattle.summary.specs.Summaries.{Summary, summary}
 use Rattle.verdict.specs.Judged.{judged}
 use Rattle.verdict.specs.declared.verdict.Verdict.{Verdict}
-use Rattle.verdict.specs.laws.JudgedLaws.{literals_encoded, judged_checks}
+use Rattle.verdict.proofs.JudgedLaws.{literals_encoded, judged_checks}
 use Rattle.files.specs.TestSummary.{test_summary, verdict_buffer, verdict_byte, test_answer}
 
 -- what is refused is Malformed, not UTF-8, or a wrong summary

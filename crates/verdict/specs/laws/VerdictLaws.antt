@@ -65,14 +65,17 @@ module _ {A : Type 0} where
   present_in v xs = (back xs, forth xs)
     where
       back : (xs : List A) → Isin (present v) (map present xs) → Isin v xs
+      back [] m = elim m [ ]
       back (x ∷ xs) (here e) = here (present_inj e)
       back (x ∷ xs) (there m) = there (back xs m)
 
       forth : (xs : List A) → Isin v xs → Isin (present v) (map present xs)
+      forth [] m = elim m [ ]
       forth (x ∷ xs) (here e) = here (ap present e)
       forth (x ∷ xs) (there m) = there (forth xs m)
 
   not_missing : (xs : List A) → Isin missing (map present xs) → ⊥
+  not_missing [] m = elim m [ ]
   not_missing (x ∷ xs) (here e) = missing_not_present e
   not_missing (x ∷ xs) (there m) = not_missing xs m
 

@@ -2,9 +2,9 @@
 use Rattle.std.specs.Prelude.{ℕ, Bool, true, not, ◌||◌, List, ◌≡◌}
 use Rattle.std.proofs.Common.{sym, ◌∙◌}
 use Rattle.std.proofs.Math.Path.{ap}
-use Rattle.values.specs.Outcomes.{Res, ok, need, ◌>>=◌, ◌>>◌}
+use Rattle.values.specs.Outcomes.{Res, ok, need, ◌>>◌}
 use Rattle.values.specs.laws.OutcomeLaws.{ok_inj, need_read, passed}
-use Rattle.values.specs.Types.{types, same_type}
+use Rattle.values.specs.Types.{same_type}
 use Rattle.values.specs.laws.TypesLaws.{same_type_lem}
 use Rattle.values.specs.declared.datatypes.PrimitiveType.{PrimitiveType}
 use Rattle.values.specs.declared.datatypes.PrimitiveType.TheVariants.{String}
