@@ -28,7 +28,7 @@ use Rattle.expr.specs.Predicates.{Predicate, literals_in}
 use Rattle.projection.specs.laws.LeafDemand as over-values
 use Rattle.projection.specs.laws.LeafDemand.{HeldIn}
 use Rattle.projection.proofs.LandingLaws.{bytes_land, bytes_short, bytes_partition_lands, bytes_partition_short}
-use Rattle.projection.proofs.LiteralLaws.{Landed}
+use Rattle.projection.specs.laws.LiteralLaws.{Landed}
 use Rattle.projection.specs.Projection.{project_bytes}
 use Rattle.projection.specs.Steps.{some}
 use Rattle.projection.specs.declared.question.Question.{Question}

@@ -14,7 +14,7 @@ use Rattle.expr.specs.Operators.{project_limit, holds_limit}
 use Rattle.expr.specs.Holds.{Tests}
 use Rattle.expr.specs.Predicates.{Predicate}
 use Rattle.partition.specs.code.PartitionAnswers.{OfPresent}
-use Rattle.projection.proofs.LiteralLaws.{Landed}
+use Rattle.projection.specs.laws.LiteralLaws.{Landed}
 use Rattle.projection.specs.Steps.{Projected, some, none, mapped}
 use Rattle.projection.specs.declared.question.Question.{Question}
 use Rattle.sheet.specs.laws.RecordLaws.{value_read}

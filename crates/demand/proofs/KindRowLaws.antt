@@ -15,7 +15,7 @@ use Rattle.expr.specs.Operators.{project_limit, holds_limit}
 use Rattle.expr.specs.Holds.{holds}
 use Rattle.partition.specs.code.PartitionAnswers.{OfPresent}
 use Rattle.projection.specs.laws.LeafDemand as over-values
-use Rattle.projection.proofs.LiteralLaws.{Landed}
+use Rattle.projection.specs.laws.LiteralLaws.{Landed}
 use Rattle.projection.specs.declared.question.Question.{Question}
 use Rattle.sheet.specs.Records.{record_size}
 use Rattle.sheet.specs.laws.SheetLaws.{Read, sheet_read_lem, wider}

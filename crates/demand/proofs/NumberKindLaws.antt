@@ -30,7 +30,7 @@ use Rattle.expr.specs.Holds.{number_tests}
 use Rattle.expr.specs.Predicates.{Predicate}
 use Rattle.projection.specs.Lifting.{lifted}
 use Rattle.projection.proofs.LandingLaws.{numbers_land, number_partition_lands}
-use Rattle.projection.proofs.LiteralLaws.{Landed}
+use Rattle.projection.specs.laws.LiteralLaws.{Landed}
 use Rattle.projection.specs.laws.ProjectionLaws.{course}
 use Rattle.projection.specs.Projection.{number_step, project_numbers}
 use Rattle.projection.specs.Steps.{some}

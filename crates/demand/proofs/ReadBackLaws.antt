@@ -17,7 +17,7 @@ use Rattle.expr.specs.Operators.{holds_limit}
 use Rattle.expr.specs.Holds.{Tests, holds}
 use Rattle.expr.specs.Predicates.{Predicate, unary, test, binary, set, literals_in}
 use Rattle.partition.specs.code.PartitionAnswers.{OfPresent}
-use Rattle.projection.proofs.LiteralLaws.{Landed}
+use Rattle.projection.specs.laws.LiteralLaws.{Landed}
 use Rattle.sheet.specs.laws.RecordLaws.{FitsRow}
 use Rattle.write.specs.laws.RoundTripLaws.{value_back}
 use Rattle.sheet.specs.Records.{record_size, value}

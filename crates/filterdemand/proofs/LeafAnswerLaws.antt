@@ -19,7 +19,7 @@ use Rattle.partition.specs.Partition.{known, number_partition, bytes_partition}
 use Rattle.partition.specs.ResultType.{result_type}
 use Rattle.expr.specs.Operators.{project_limit}
 use Rattle.expr.specs.Predicates.{Predicate, test, binary}
-use Rattle.projection.proofs.LiteralLaws.{Landed}
+use Rattle.projection.specs.laws.LiteralLaws.{Landed}
 use Rattle.projection.specs.Steps.{some}
 use Rattle.projection.specs.declared.question.Question.{Question}
 use Rattle.projection.specs.declared.question.Question.TheVariants.{Inclusive, Strict}

@@ -19,7 +19,7 @@ use Rattle.expr.specs.Holds.{Tests, holds}
 use Rattle.expr.specs.Operators.{project_limit, holds_limit}
 use Rattle.expr.specs.Predicates.{Predicate, unary, test, binary, set, literals_in}
 use Rattle.projection.specs.laws.LeafDemand as over-values
-use Rattle.projection.proofs.LiteralLaws.{Landed}
+use Rattle.projection.specs.laws.LiteralLaws.{Landed}
 use Rattle.projection.specs.Steps.{Projected, some, none, mapped}
 use Rattle.projection.specs.declared.question.Question.{Question}
 use Rattle.projection.specs.declared.question.Question.TheVariants.{Inclusive, Strict}

@@ -25,7 +25,8 @@ use Rattle.partition.specs.ResultType.{result_type}
 use Rattle.expr.specs.Predicates.{Test, Predicate, test, literals_in}
 use Rattle.projection.specs.laws.LeafDemand.{HeldIn}
 use Rattle.projection.specs.Lifting.{lifted, older_if}
-use Rattle.projection.proofs.LiteralLaws.{Landed, lands, lift_lands, older_lands, inclusive_numbers, strict_numbers, inclusive_bytes_lem, strict_bytes_lem}
+use Rattle.projection.specs.laws.LiteralLaws.{Landed}
+use Rattle.projection.proofs.LiteralLaws.{lands, lift_lands, older_lands, inclusive_numbers, strict_numbers, inclusive_bytes_lem, strict_bytes_lem}
 use Rattle.projection.specs.laws.LiftingLaws.{lift_if, returned_lifted}
 use Rattle.projection.specs.NumberSteps.{inclusive_number, strict_number}
 use Rattle.projection.specs.Projection.{length_of, number_under, number_step, project_numbers, bytes_under, bytes_step, project_bytes}

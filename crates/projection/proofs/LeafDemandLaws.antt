@@ -27,13 +27,15 @@ use Rattle.expr.specs.Predicates.{Test, Predicate, unary, test, literals_in}
 use Rattle.projection.specs.laws.ByteLaws.{follows, leads}
 use Rattle.projection.specs.laws.LeafDemand.{HeldIn, StrictExact, InclusiveExact, NumbersStrictExact, NumbersInclusiveExact, BytesNoRowLost, BytesStrictIsSafe}
 use Rattle.projection.specs.Lifting.{lifted}
-use Rattle.projection.proofs.NumberLaws.{LiftedExact, AllExact, lifted_exact, strict_exact}
-use Rattle.projection.proofs.NumberRowLaws.{strict_rows, inclusive_rows, strict_unary, inclusive_unary, strict_itself, inclusive_itself}
+use Rattle.projection.specs.laws.NumberLaws.{LiftedExact, AllExact}
+use Rattle.projection.proofs.NumberLaws.{lifted_exact, strict_exact}
+use Rattle.projection.specs.laws.NumberRowLaws.{strict_rows, inclusive_rows, strict_unary, inclusive_unary, strict_itself, inclusive_itself}
 use Rattle.projection.specs.Projection.{length_of, through, number_under, number_step, project_numbers, bytes_under, bytes_step, project_bytes}
 use Rattle.projection.specs.laws.ProjectionLaws.{by_steps, Course, leaf_itself, stepped, course}
-use Rattle.projection.proofs.MissingLaws.{SameMissing, number_step_missing, bytes_step_missing}
+use Rattle.projection.specs.laws.MissingLaws.{SameMissing}
+use Rattle.projection.proofs.MissingLaws.{number_step_missing, bytes_step_missing}
 use Rattle.projection.specs.laws.RowLaws.{literal_value, same_row}
-use Rattle.projection.proofs.SoundLaws.{Demanded, Sound, tests_sound, unary_sound, itself_sound}
+use Rattle.projection.specs.laws.SoundLaws.{Demanded, Sound, tests_sound, unary_sound, itself_sound}
 use Rattle.projection.specs.laws.StepLaws.{Returned, returned, returned_by, returned_both, returned_map}
 use Rattle.projection.specs.Steps.{some}
 use Rattle.projection.specs.declared.question.Question.{Question}

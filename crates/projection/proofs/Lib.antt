@@ -2,8 +2,6 @@
 pub mod OppositeLaws
 pub mod MissingLaws
 pub mod NumberLaws
-pub mod NumberRowLaws
-pub mod SoundLaws
 pub mod LeafDemandLaws
 pub mod OlderLeafDemandLaws
 pub mod LiteralLaws

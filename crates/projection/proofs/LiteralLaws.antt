@@ -27,13 +27,9 @@ use Rattle.projection.specs.Projection.{in_order, through, by_transform}
 use Rattle.projection.specs.laws.ProjectionLaws.{Course, leaf_itself, stepped, course}
 use Rattle.projection.specs.laws.StepLaws.{Returned, returned, returned_map, returned_literal, returned_each, returned_cond, returned_length}
 use Rattle.projection.specs.Steps.{Projected, some, none, with_literal, with_each}
+use Rattle.projection.specs.laws.LiteralLaws.{Landed}
 
 -- ---- any kind of value
-
--- every literal of a predicate is one of g, and there are at most n
-pub record Landed {A : Type 0} (g : A → Type 0) (n : ℕ) (x : Predicate A) : Type 0 where
-  pub all : AllOf g (literals_in x)
-  pub count : length (literals_in x) ≤ n
 
 all_map : {A : Type 0} (g h : A → Type 0) → ((v : A) → g v → h v) → (xs : List A) → AllOf g xs → AllOf h xs
 all_map g h k [] x = tt

@@ -11,7 +11,7 @@ use Rattle.values.specs.declared.order.Ordering.{Ordering}
 use Rattle.values.specs.declared.transform.Transform.{Transform}
 use Rattle.expr.specs.Holds.{missing_meets}
 use Rattle.expr.specs.Operators.{Binary, SetOperator, one, many, less_than, less_than_or_eq, greater_than, greater_than_or_eq, eq, not_eq, starts_with, not_starts_with, is_in, not_in}
-use Rattle.expr.specs.Predicates.{Test, binary, set, test, by_arity_in}
+use Rattle.expr.specs.Predicates.{Test, binary, set}
 use Rattle.projection.specs.ByteSteps.{Step, by_length, string_starts, string_not_starts, binary_starts, binary_not_starts, inclusive_bytes, strict_bytes}
 use Rattle.projection.specs.Lifting.{lift, lifted, older, older_if}
 use Rattle.projection.specs.NumberSteps.{one_below, one_above, inclusive_number, strict_number}
@@ -21,13 +21,7 @@ use Rattle.projection.specs.declared.question.Question.{Question}
 use Rattle.projection.specs.declared.question.Question.TheVariants.{Inclusive, Strict, Older}
 use Rattle.projection.specs.laws.LiftingLaws.{lift_if, returned_lifted}
 use Rattle.projection.specs.laws.StepLaws.{Returned, returned_map, returned_literal, returned_each, returned_cond, returned_length}
-
--- whether a missing value meets a test
-abbrev pub meets_missing : {A : Type 0} → Test A → Bool
-meets_missing x = missing_meets (by_arity_in (test x))
-
-abbrev pub SameMissing : {A B : Type 0} → Test A → Test B → Type 0
-SameMissing x q = meets_missing q ≡ meets_missing x
+use Rattle.projection.specs.laws.MissingLaws.{meets_missing, SameMissing}
 
 module _ {A B : Type 0} (x : Test A) where
   one_missing : (o : Binary) (r : Res B) → missing_meets (one o) ≡ meets_missing x → Returned (with_literal o r) (λ q. SameMissing x q)

@@ -2,7 +2,7 @@
 -- numbers. Assumes nothing.
 use Rattle.std.specs.Prelude.{Bool, true, false, ◌⊎◌, ◌↔◌, ◌≡◌, refl, ℤ, ◌≤ℤ◌}
 use mathlib.Core.List.Memᴰ.{eq_of_singleton}
-use mathlib.Core.List.{[], ◌∷◌, Memᴰ as Isin}
+use mathlib.Core.List.{[], ◌∷◌}
 use Rattle.std.proofs.Common.{inl, inr, ⊎_elim, sym, ap, ◌∙◌}
 use Rattle.std.proofs.Math.IntN.{suc_ℤ, pred_ℤ}
 use Rattle.values.specs.code.Places.{AllOf}
@@ -24,39 +24,15 @@ use Rattle.expr.specs.laws.HoldsLaws.{opposite, opposite_literals, meets_false, 
 use Rattle.expr.specs.Operators.{less_than, less_than_or_eq, greater_than, greater_than_or_eq, eq, not_eq, starts_with, not_starts_with, is_in, not_in}
 use Rattle.expr.specs.Predicates.{Test, binary, set, test, literals_in}
 use Rattle.projection.specs.Lifting.{lift}
-use Rattle.projection.specs.laws.LiftingLaws.{less_is, greater_is, Above, lift_if, returned_lifted, lift_keeps, Rises, at_most_rises, at_least_rises, equal_rises, within_rises, lift_back}
+use Rattle.projection.specs.laws.LiftingLaws.{less_is, greater_is, lift_if, returned_lifted, lift_keeps, Rises, at_most_rises, at_least_rises, equal_rises, within_rises, lift_back}
 use Rattle.projection.specs.NumberSteps.{one_below, one_above, inclusive_number, strict_number}
 use Rattle.projection.specs.Projection.{lifted_by}
 use Rattle.projection.specs.laws.EqualLaws.{Equals, eq_equals, in_equals}
 use Rattle.projection.specs.laws.StepLaws.{Returned, returned_map, returned_weaken, returned_literal, returned_each, opposite_literal, opposite_each, Literal}
 use Rattle.projection.specs.Steps.{Projected, some, none, mapped, with_literal, with_each}
+use Rattle.projection.specs.laws.NumberLaws.{Has, Exact, LiftedExact, AllExact}
 
 -- ---- inclusive
-
-module _ (column : PrimitiveType) (T : ℤ → Res ℤ) where
-  -- p is the partition value of v, a number of the column's type
-  abbrev pub Has : ℤ → ℤ → Type 0
-  Has v p = InType column v × (T v ≡ ok p)
-
-  abbrev pub SomeNumber : Test ℤ → ℤ → Type 0
-  SomeNumber x p = (v : ℤ) × Has v p × (meets number_tests x v ≡ true)
-
-  abbrev pub AllNumbers : Test ℤ → ℤ → Type 0
-  AllNumbers x p = (v : ℤ) → Has v p → meets number_tests x v ≡ true
-
-  -- q accepts a partition value exactly where some number of it meets x. What lifting asks besides: q rises, and its literals are partition values
-  pub record Exact (x q : Test ℤ) : Type 0 where
-    pub kept : (v p : ℤ) → Has v p → meets number_tests x v ≡ true → meets number_tests q p ≡ true
-    pub needed : (v p : ℤ) → Has v p → meets number_tests q p ≡ true → SomeNumber x p
-    pub rises : Rises q
-    pub literals : (t : ℤ) → Isin t (literals_in (test q)) → (v : ℤ) × Has v t
-
-  -- what is to be shown of the numbers of a partition value: of an inclusive test, lifted or not, and of a strict one
-  abbrev pub LiftedExact : Bool → Test ℤ → Test ℤ → Type 0
-  LiftedExact lifts x q = (v p : ℤ) → Has v p → (meets number_tests q p ≡ true) ↔ (SomeNumber x p ⊎ ((lifts ≡ true) × Above p (SomeNumber x)))
-
-  abbrev pub AllExact : Test ℤ → Test ℤ → Type 0
-  AllExact x q = (v p : ℤ) → Has v p → (meets number_tests q p ≡ true) ↔ AllNumbers x p
 
 -- an order of numbers: ≤, or ≥
 record Order (before : ℤ → ℤ → Type 0) : Type 0 where

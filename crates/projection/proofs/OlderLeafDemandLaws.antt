@@ -29,13 +29,15 @@ use Rattle.projection.specs.declared.question.Question.TheVariants.{Inclusive, S
 use Rattle.projection.specs.laws.LeafDemand.{RowOf}
 use Rattle.projection.proofs.LeafDemandLaws.{under_mono, never_missing, identity_row}
 use Rattle.projection.specs.laws.LiftingLaws.{lift_if, returned_lifted, lift_keeps}
-use Rattle.projection.proofs.MissingLaws.{SameMissing, number_step_missing}
-use Rattle.projection.proofs.NumberLaws.{Has, Exact, inclusive_exact, strict_by}
+use Rattle.projection.specs.laws.MissingLaws.{SameMissing}
+use Rattle.projection.proofs.MissingLaws.{number_step_missing}
+use Rattle.projection.specs.laws.NumberLaws.{Has, Exact}
+use Rattle.projection.proofs.NumberLaws.{inclusive_exact, strict_by}
 use Rattle.projection.specs.laws.OlderLeafDemand.{Filed, NumbersNoOlderRowLost, NumbersOlderIsSafe}
 use Rattle.projection.proofs.OppositeLaws.{older_if_opposite}
 use Rattle.projection.specs.laws.ProjectionLaws.{by_steps, Course, leaf_itself, stepped, course, in_order_holds}
 use Rattle.projection.specs.laws.RowLaws.{literal_value}
-use Rattle.projection.proofs.SoundLaws.{Demanded, demanded_same}
+use Rattle.projection.specs.laws.SoundLaws.{Demanded, demanded_same}
 use Rattle.projection.specs.laws.StepLaws.{Returned, returned, returned_map, returned_weaken, returned_both}
 
 -- ---- over the numbers of a column's type, under any partial map

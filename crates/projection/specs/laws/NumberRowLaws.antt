@@ -13,10 +13,10 @@ use Rattle.expr.specs.Holds.{number_tests, holds}
 use Rattle.expr.specs.Operators.{Unary}
 use Rattle.expr.specs.Predicates.{Test, Predicate, unary, test}
 use Rattle.projection.specs.laws.LeafDemand.{RowOf, SomeRow, AllRows, StrictExact, InclusiveExact}
-use Rattle.projection.proofs.NumberLaws.{Has, SomeNumber, AllNumbers, LiftedExact, AllExact}
+use Rattle.projection.specs.laws.NumberLaws.{Has, SomeNumber, AllNumbers, LiftedExact, AllExact}
 use Rattle.projection.specs.Projection.{in_order}
 use Rattle.projection.specs.laws.ProjectionLaws.{in_order_holds}
-use Rattle.projection.proofs.MissingLaws.{SameMissing}
+use Rattle.projection.specs.laws.MissingLaws.{SameMissing}
 use Rattle.projection.specs.laws.RowLaws.{literal_value, missing_row, present_row, unary_row}
 use Rattle.projection.specs.Steps.{literal_under}
 

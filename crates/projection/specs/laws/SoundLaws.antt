@@ -11,7 +11,7 @@ use Rattle.expr.specs.Predicates.{Test, Predicate, unary, test}
 use Rattle.projection.specs.laws.LeafDemand.{RowOf, NoRowLost, StrictIsSafe}
 use Rattle.projection.specs.Projection.{in_order}
 use Rattle.projection.specs.laws.ProjectionLaws.{in_order_holds}
-use Rattle.projection.proofs.MissingLaws.{SameMissing}
+use Rattle.projection.specs.laws.MissingLaws.{SameMissing}
 use Rattle.projection.specs.laws.RowLaws.{unary_row}
 use Rattle.projection.specs.declared.question.Question.{Question}
 use Rattle.projection.specs.declared.question.Question.TheVariants.{Inclusive, Strict, Older}
