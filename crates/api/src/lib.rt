@@ -1,4 +1,6 @@
 // The routines over bytes.
+#![tactic(auto)]
+
 pub mod holds;
 pub mod literal;
 pub mod project;

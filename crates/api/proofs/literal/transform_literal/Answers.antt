@@ -1,0 +1,63 @@
+-- `literal::transform_literal` meets its contract: the buffer, then type, transform and width, then the value. Assumes nothing.
+use Rattle.values.specs.Outcomes.{ok, err}
+use Rattle.answers.specs.Answers.{as_result}
+use Rattle.values.specs.laws.TypeResultLaws.{type_told, transform_told}
+use Rattle.api.specs.Routines.{transform_value, value_buffer}
+use Rattle.api.proofs.Buffers.{settled_in}
+use Rattle.api.proofs.LiteralReads.{no_type, no_transform, value_answered}
+use Rattle.api.proofs.literal.transform_literal.Goals as goal
+
+pub returns-in-Err : goal.returns-in-Err
+returns-in-Err c =
+    let call = c in
+    let else = call in
+    let a = else.args in
+    let v = a.value.now in
+    let both = settled_in value_buffer (as_result (transform_value a.column_type a.transform a.width v)) else.if-out-lt-RECORD_SIZE.false
+    (no_type a.column_type a.transform a.width v (type_told _ (err _) call.from_number.ensures c.in-Err.is)) in record {
+      number = both.0;
+      buffer = both.1;
+    }
+
+pub returns-in-Err-from_numbers : goal.returns-in-Err-from_numbers
+returns-in-Err-from_numbers c =
+    let next = c in
+    let column = next in
+    let call = column in
+    let else = call in
+    let a = else.args in
+    let v = a.value.now in
+    let both = settled_in value_buffer (as_result (transform_value a.column_type a.transform a.width v)) else.if-out-lt-RECORD_SIZE.false
+    (no_transform
+    a.column_type
+    a.transform
+    a.width
+    v
+    (type_told _ (ok _) call.from_number.ensures column.in-Ok.is)
+    (transform_told _ (err _) next.from_numbers.ensures c.in-Err-from_numbers.is)) in record {
+      number = both.0;
+      buffer = both.1;
+    }
+
+pub returns : goal.returns
+returns c =
+    let at = c in
+    let told = at in
+    let next = told in
+    let column = next in
+    let call = column in
+    let else = call in
+    let a = else.args in
+    let v = a.value.now in
+    let both = settled_in value_buffer (as_result (transform_value a.column_type a.transform a.width v)) else.if-out-lt-RECORD_SIZE.false
+    (value_answered
+    a.column_type
+    a.transform
+    a.width
+    v
+    (type_told _ (ok _) call.from_number.ensures column.in-Ok.is)
+    (transform_told _ (ok _) next.from_numbers.ensures told.in-Ok-from_numbers.is)
+    at.transform_value.ensures) in record {
+      number = both.0;
+      buffer = both.1;
+    }
