@@ -1,2 +1,4 @@
 // Files known only by their ends, over bytes.
+#![tactic(auto)]
+
 pub mod files;
