@@ -30,7 +30,7 @@ use Rattle.projection.proofs.OlderLeafDemandLaws.{numbers_no_older_row_lost, num
 use Rattle.sheet.specs.Sheets.{head}
 use Rattle.answers.specs.Kinds.{Kind, numbers, byte_strings}
 use Rattle.answers.specs.laws.BytesLeafLaws.{no_time, not_listed}
-use Rattle.api.specs.Demand3.{type_in, transform_in, width_in, RowOf, HoldsNumber}
+use Rattle.api.specs.Demand3.{type_in, transform_in, width_in, HoldsNumber}
 use Rattle.api.specs.OlderDemand.{Filed}
 use Rattle.demand.proofs.BytesKindLaws.{all_parts, row_held, bytes_values, bytes_kind}
 use Rattle.demand.proofs.ExactLaws.{head_lifts, number_held}

@@ -1,7 +1,7 @@
 -- Under a transform that has a result type, steps refuse with 6 and 8, and with 7 under Unknown alone: what holds of those holds of every refusal of a transform
 -- and of a projection. Assumes nothing.
 use Prim.Native.Nat.{ℕ}
-use mathlib.Core.Bool.{true, false, not, ◌||◌, false≢true}
+use mathlib.Core.Bool.{true, not, ◌||◌, false≢true}
 use mathlib.Core.List.{List}
 use mathlib.Core.Path.{◌≡◌, refl, ap}
 use lib.Dec.{ltb, leb, eqb}
