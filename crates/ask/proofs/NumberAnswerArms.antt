@@ -1,7 +1,7 @@
 -- What the calls of src/number.rt require and its returns answer: the sizes of numbers, and In of a number and the one above it. Assumes nothing.
 use Prim.Native.Nat.{ℕ}
 use mathlib.Core.Bool.{Bool, true, false, not, or-false}
-use mathlib.Core.List.{List, [], ◌∷◌, map}
+use mathlib.Core.List.{List, [], ◌∷◌}
 use mathlib.Core.Path.{◌≡◌, refl, sym, ap, ◌∙◌}
 use lib.IntN.{ℤ, pos, suc_ℤ, ◌+ℤ◌, +ℤ_one}
 use lib.ListN.{length}
@@ -28,8 +28,7 @@ use Rattle.expr.specs.code.OperatorAnswers.{takes_many}
 use Rattle.expr.specs.Predicates.{set}
 use Rattle.expr.specs.declared.operator.PredicateOperator.{PredicateOperator}
 use Rattle.expr.specs.declared.operator.PredicateOperator.TheVariants.{IsNull, NotNull, IsNan, NotNan, LessThan, LessThanOrEq, GreaterThan, GreaterThanOrEq, Eq, NotEq, StartsWith, NotStartsWith, In, NotIn}
-use Rattle.expr.proofs.OperatorArms.{position, but}
-use types.Run.{OneOf, miss}
+use Rattle.std.specs.Prelude.{◌≢◌}
 use Rattle.projection.specs.declared.question.Question.{Question}
 use Rattle.numbers.specs.code.Boundaries.{number_projected}
 use Rattle.numbers.specs.declared.steps.NumberProjection.{NumberProjection}
@@ -127,8 +126,8 @@ module _ (v t : ℤ) where
   second_asked e d = rw (e, or-false) d
 
 -- a set operator that is not In
-is_not_in : (o : PredicateOperator) → takes_many (by_arity o) ≡ true → OneOf (map position (but (In ∷ []))) (position o) → o ≡ NotIn
-is_not_in In h m = absurd (miss (map position (but (In ∷ []))) (position In) tt m)
+is_not_in : (o : PredicateOperator) → takes_many (by_arity o) ≡ true → o ≢ In → o ≡ NotIn
+is_not_in In h m = absurd (m refl)
 is_not_in NotIn h m = refl
 is_not_in IsNull h m = clash h refl
 is_not_in NotNull h m = clash h refl
@@ -152,6 +151,6 @@ module _ (o : PredicateOperator) (t : ℤ) (bs : List ℕ) (several : takes_many
     pub in_two : o ≡ In → r ≡ held_as (ok found) → r ≡ held_as (ok (meets_two (by_arity o) t (number_row (row there bs))))
     in_two e d = d ∙ rw (is, e, told)
 
-    pub not_in_two : OneOf (map position (but (In ∷ []))) (position o) → r ≡ held_as (ok (not found))
+    pub not_in_two : o ≢ In → r ≡ held_as (ok (not found))
         → r ≡ held_as (ok (meets_two (by_arity o) t (number_row (row there bs))))
     not_in_two m d = let e = is_not_in o several m in d ∙ rw (is, e, told)

@@ -1,4 +1,6 @@
 // What one leaf of a filter is answered, by a row or by partition values.
+#![tactic(auto)]
+
 pub mod asked;
 pub mod number;
 pub mod text;

@@ -1,5 +1,5 @@
 -- What a fitted leaf is answered is the answer of its typed literal, for a row and for partition values. Assumes nothing.
-use Rattle.std.specs.Prelude.{ℕ, true, false, not, ◌||◌, List, ◌≡◌, refl, ℤ, length}
+use Rattle.std.specs.Prelude.{ℕ, true, not, ◌||◌, List, ◌≡◌, refl, ℤ, length}
 use Rattle.std.proofs.lemmas.Bool.{false≢true}
 use Rattle.std.proofs.Common.{eqb-true}
 use Rattle.values.specs.Outcomes.{Row, missing, present}
