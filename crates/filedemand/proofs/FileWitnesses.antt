@@ -18,7 +18,6 @@ use Rattle.transform.specs.Floor.{floor_mod}
 use Rattle.transform.specs.Truncate.{truncated, first_bytes}
 use Rattle.partition.specs.Partition.{transform_number, transform_bytes, partition, number_partition, bytes_partition}
 use Rattle.partition.specs.ResultType.{result_type}
-use Rattle.expr.specs.Operators.{starts_with}
 use Rattle.projection.specs.declared.question.Question.TheVariants.{Inclusive, Strict}
 use Rattle.sheet.specs.Records.{content, value}
 use Rattle.sheet.specs.Sheets.{head, sheet, fields}

@@ -42,7 +42,7 @@ module _ {a b f : List ℕ} (p : PoolParts a b f) where
         let y = gone (sheet holds_limit s) _ e in
         let skipped = sym (going _ (pooled_sound p)) ∙ y.2 in
         going _ y.1 ∙ going _ x.is
-        ∙ judged_narrower p.column y.0.leaf x.ends _ x.has_missing _ in_pool x.in_order y.0.head.column x.encoded skipped
+        ∙ judged_narrower p.column y.0.leaf x.ends _ x.has_missing _ in_pool x.in_order_lem y.0.head.column x.encoded skipped
 
 pub pooled_covers_each : PooledCoversEach
 pooled_covers_each a b f v pools =

@@ -20,7 +20,7 @@ use Rattle.sheet.specs.Sheets.{head, sheet, fields}
 use Rattle.sheet.specs.Values.{map_row}
 use Rattle.write.specs.Written.{value_record, number_bytes, answer_sheet}
 use Rattle.api.specs.Demand3.{Returns, RowOf}
-use Rattle.api.specs.Requests.{sheet_of, value_of}
+use Rattle.api.specs.Requests.{sheet_of}
 use Rattle.demand.proofs.RecordBytes.{both_bytes, record_bytes}
 use Rattle.demand.proofs.Witnesses.{int, int_value, below300, at_most290, returned, starts_ab}
 use Rattle.summary.specs.Summaries.{summary}
@@ -30,8 +30,8 @@ use Rattle.verdict.specs.TextVerdicts.{text_verdict}
 use Rattle.ends.specs.Between.{between}
 use Rattle.verdict.specs.Verdicts.{number_verdict}
 use Rattle.verdict.specs.declared.verdict.Verdict.TheVariants.{Read}
-use Rattle.files.specs.FileDemand.{covers, Covers, Skips}
-use Rattle.files.specs.FileRequests.{summary_of, no_values}
+use Rattle.files.specs.FileDemand.{Covers, Skips}
+use Rattle.files.specs.FileRequests.{summary_of}
 use Rattle.files.specs.PoolDemand.{Pools, NoneIn}
 use Rattle.files.specs.TestSummary.{test_summary}
 use Rattle.filedemand.proofs.FileWitnesses.{high, empty_file, missing_alone, rows, held}
