@@ -1,13 +1,12 @@
 -- What the symbol after a filter tells: whether a word goes on with it, a bracket closes, or the text ends. Assumes nothing.
 use Prim.Native.Nat.{ℕ, ◌≤◌, ◌<◌}
 use mathlib.Core.Bool.{Bool, true, false}
-use mathlib.Core.List.{List, [], ◌∷◌, map}
+use mathlib.Core.List.{List, [], ◌∷◌}
+use Rattle.std.proofs.Common.{◌≢◌}
 use mathlib.Core.Path.{◌≡◌, refl, sym, ap, subst, ◌∙◌}
 use lib.Dec.{eqb}
 use lib.ListN.{length, drop}
-use types.Run.{OneOf}
 use Rattle.values.specs.laws.TestLaws.{clash}
-use Rattle.values.proofs.Arms.{position, but, agree}
 use Rattle.meets.specs.declared.held.Held.{Held}
 use Rattle.columns.specs.Columns.{Column}
 use Rattle.grammar.specs.Grammar.{Symbol, leaf_of, and_word, or_word, not_word, opening, closing, unreadable}
@@ -18,7 +17,6 @@ use Rattle.leaves.specs.Symbols.{symbols}
 use Rattle.leaves.specs.code.SymbolAnswers.{Begins, is_symbol}
 use Rattle.leaves.specs.declared.symbol.SymbolKind.{SymbolKind}
 use Rattle.leaves.specs.declared.symbol.SymbolKind.TheVariants as kind
-use Rattle.leaves.specs.contracts.symbol.SymbolKind.{enum}
 use Rattle.parse.specs.code.FilterReads.{no_filter, Seen, FilterTo, Looks}
 use Rattle.parse.specs.declared.read.Read.{Read}
 use Rattle.parse.specs.laws.BracketReadLaws.{is_closing}
@@ -40,21 +38,46 @@ number kind.Unreadable = 7
 abbrev pub is_kind : SymbolKind → SymbolKind → Bool
 is_kind k other = eqb (number k) (number other)
 
--- what the arm for any other kind is told
-abbrev Other : List SymbolKind → SymbolKind → Type 0
-Other ks k = OneOf (map (position enum) (but enum tt ks)) (position enum k)
+-- a kind that an arm did not take
+pub not_and : (k : SymbolKind) → k ≢ kind.And → is_kind kind.And k ≡ false
+not_and kind.End a = refl
+not_and kind.Leaf a = refl
+not_and kind.And a = absurd (a refl)
+not_and kind.Or a = refl
+not_and kind.Not a = refl
+not_and kind.Opening a = refl
+not_and kind.Closing a = refl
+not_and kind.Unreadable a = refl
 
-pub not_and : (k : SymbolKind) → Other (kind.And ∷ []) k → is_kind kind.And k ≡ false
-not_and k m = agree enum tt (is_kind kind.And) (λ other. false) (but enum tt (kind.And ∷ [])) k m refl
+pub not_or : (k : SymbolKind) → k ≢ kind.Or → is_kind kind.Or k ≡ false
+not_or kind.End a = refl
+not_or kind.Leaf a = refl
+not_or kind.And a = refl
+not_or kind.Or a = absurd (a refl)
+not_or kind.Not a = refl
+not_or kind.Opening a = refl
+not_or kind.Closing a = refl
+not_or kind.Unreadable a = refl
 
-pub not_or : (k : SymbolKind) → Other (kind.Or ∷ []) k → is_kind kind.Or k ≡ false
-not_or k m = agree enum tt (is_kind kind.Or) (λ other. false) (but enum tt (kind.Or ∷ [])) k m refl
+pub not_closing : (k : SymbolKind) → k ≢ kind.Closing → is_kind kind.Closing k ≡ false
+not_closing kind.End a = refl
+not_closing kind.Leaf a = refl
+not_closing kind.And a = refl
+not_closing kind.Or a = refl
+not_closing kind.Not a = refl
+not_closing kind.Opening a = refl
+not_closing kind.Closing a = absurd (a refl)
+not_closing kind.Unreadable a = refl
 
-pub not_closing : (k : SymbolKind) → Other (kind.Closing ∷ []) k → is_kind kind.Closing k ≡ false
-not_closing k m = agree enum tt (is_kind kind.Closing) (λ other. false) (but enum tt (kind.Closing ∷ [])) k m refl
-
-pub not_end : (k : SymbolKind) → Other (kind.End ∷ []) k → is_kind kind.End k ≡ false
-not_end k m = agree enum tt (is_kind kind.End) (λ other. false) (but enum tt (kind.End ∷ [])) k m refl
+pub not_end : (k : SymbolKind) → k ≢ kind.End → is_kind kind.End k ≡ false
+not_end kind.End a = absurd (a refl)
+not_end kind.Leaf a = refl
+not_end kind.And a = refl
+not_end kind.Or a = refl
+not_end kind.Not a = refl
+not_end kind.Opening a = refl
+not_end kind.Closing a = refl
+not_end kind.Unreadable a = refl
 
 -- ---- the kind of the first of some symbols
 
@@ -122,8 +145,15 @@ opens_filter kind.Opening = true
 opens_filter kind.Closing = false
 opens_filter kind.Unreadable = false
 
-pub no_filter_kind : (k : SymbolKind) → Other (kind.Not ∷ kind.Leaf ∷ kind.Opening ∷ []) k → opens_filter k ≡ false
-no_filter_kind k m = agree enum tt opens_filter (λ other. false) (but enum tt (kind.Not ∷ kind.Leaf ∷ kind.Opening ∷ [])) k m refl
+pub no_filter_kind : (k : SymbolKind) → k ≢ kind.Leaf → k ≢ kind.Not → k ≢ kind.Opening → opens_filter k ≡ false
+no_filter_kind kind.End a b c = refl
+no_filter_kind kind.Leaf a b c = absurd (a refl)
+no_filter_kind kind.And a b c = refl
+no_filter_kind kind.Or a b c = refl
+no_filter_kind kind.Not a b c = absurd (b refl)
+no_filter_kind kind.Opening a b c = absurd (c refl)
+no_filter_kind kind.Closing a b c = refl
+no_filter_kind kind.Unreadable a b c = refl
 
 begins_filter_lem : (ts : List (Symbol Leaf)) → begins_filter ts ≡ opens_filter (kind_of ts)
 begins_filter_lem [] = refl

@@ -1,4 +1,6 @@
 // Filters, read and answered in one pass over their text.
+#![tactic(auto)]
+
 pub mod join;
 pub mod leaf;
 pub mod parse;

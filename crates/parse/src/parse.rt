@@ -13,7 +13,7 @@ use meets::held::Held;
 pub const BRACKET_LIMIT: usize = 16;
 
 // A filter from `at` on. Under an odd number of nots (`negate`) or becomes and, and and becomes or; `opened` brackets are open around it.
-#[cycle(parse_and_parse_bracket_parse_not_parse_or)]
+#[cycle(parser)]
 pub fn parse_or(
     asked: Asked,
     c: &[u8],
@@ -41,7 +41,7 @@ pub fn parse_or(
     }
 }
 
-#[cycle(parse_and_parse_bracket_parse_not_parse_or)]
+#[cycle(parser)]
 fn parse_and(
     asked: Asked,
     c: &[u8],
@@ -70,7 +70,7 @@ fn parse_and(
 }
 
 // The nots are a loop: a text may have a thousand, and each would take its share of the stack.
-#[cycle(parse_and_parse_bracket_parse_not_parse_or)]
+#[cycle(parser)]
 fn parse_not(
     asked: Asked,
     c: &[u8],
@@ -109,7 +109,7 @@ fn parse_not(
 }
 
 // What is in a bracket, from the text after `(` on. Where too many are open it is passed over: nothing in it is answered.
-#[cycle(parse_and_parse_bracket_parse_not_parse_or)]
+#[cycle(parser)]
 fn parse_bracket(
     asked: Asked,
     c: &[u8],
