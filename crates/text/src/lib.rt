@@ -1,4 +1,6 @@
 // What program `weighpick` prints, written into a lent buffer.
+#![tactic(auto)]
+
 pub mod decimal;
 pub mod hexadecimal;
 pub mod line;

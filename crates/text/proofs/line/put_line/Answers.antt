@@ -2,13 +2,12 @@
 use Prim.Native.Nat.{ℕ, ◌+◌, ◌≤◌, ◌<◌}
 use native.Mathlib.Omega.{arith}
 use mathlib.Core.List.{List, ◌∷◌, ◌++◌}
-use mathlib.Core.Path.{◌≡◌, refl, ◌∙◌}
-use lib.ListN.{length, set, length-set, length-append}
+use mathlib.Core.Path.{◌≡◌, refl}
+use lib.ListN.{length, set, length-append}
 use Rattle.values.specs.Words.{over}
 use Rattle.text.specs.Text.{space, newline, digits, spaced, after_zero, answer_words, answer_line}
-use Rattle.text.proofs.Writes.{Wrote, wrote, as_ensured, one, then, kept}
-use Rattle.text.proofs.line.put_line.Statement.{statement}
-use Rattle.text.proofs.line.put_line.Tie as tie
+use Rattle.text.proofs.Writes.{Wrote, wrote, one, then, kept}
+use Rattle.text.proofs.line.put_line.Goals as goal
 
 -- the parts of a line after its question
 abbrev numbered : ℕ → List ℕ
@@ -52,61 +51,29 @@ module _ {at : ℕ} {question : List ℕ} {code : ℕ} {answer d : List ℕ} (t 
 named : {at : ℕ} {question d e : List ℕ} → e ≡ over at question d → Wrote at question d e (at + length question)
 named h = record { written = h; ended = refl }
 
-asked : (s : tie.Start) → let a = s.args in Asked a.at a.question.now a.number a.answer.now a.d.now
-asked s = record { room = s.requires }
+asked : {at : ℕ} {question : List ℕ} {code : ℕ} {answer d : List ℕ} → at + length (answer_line question code answer) ≤ length d → Asked at question code answer d
+asked h = record { room = h }
 
-put-bytes-requires : tie.Need-put-bytes-requires
-put-bytes-requires c κs = omega (arith, parts_room (asked c.before.before.before.before))
+pub put_bytes-requires : goal.put_bytes-requires
+put_bytes-requires c = omega (arith, parts_room (asked c.requires))
 
-add-put-word : tie.Need-overflow-add-put-word
-add-put-word c = let p = c.before.before.before in omega (arith, parts_room (asked p.before.before.before.before.before))
+pub put_word-numbered-requires : goal.put_word-numbered-requires
+put_word-numbered-requires c = number_room (asked c.requires) (named c.put_bytes.ensures)
 
-put-word-requires : tie.Need-put-word-requires
-put-word-requires c κs =
-    let p = c.before.before.before in
-    number_room (asked p.before.before.before.before.before) (named p.put-bytes.ensures)
+pub put_answer-end-requires : goal.put_answer-end-requires
+put_answer-end-requires c =
+    let n = c.put_word-numbered.ensures in
+    answer_room (asked c.requires) (named c.put_bytes.ensures) (wrote (n.d_after, n.value))
 
-put-answer-requires : tie.Need-put-answer-requires
-put-answer-requires c κs =
-    let q = c.before.before.before in
-    let p = q.before.before.before.before in
-    answer_room (asked p.before.before.before.before.before) (named p.put-bytes.ensures) (wrote q.put_word.ensures)
+pub bounds-d-end : goal.bounds-d-end
+bounds-d-end c =
+    let n = c.put_word-numbered.ensures in
+    let e = c.put_answer-end.ensures in
+    end_room (asked c.requires) (named c.put_bytes.ensures) (wrote (n.d_after, n.value)) (wrote (e.d_after, e.value))
 
-slice-write-d : tie.Need-slice-write-d
-slice-write-d c =
-    let r = c.before.before in
-    let q = r.before.before.before.before in
-    let p = q.before.before.before.before in
-    end_room (asked p.before.before.before.before.before) (named p.put-bytes.ensures) (wrote q.put_word.ensures) (wrote r.put-answer.ensures)
-
-same_length : tie.Need-same-length
-same_length c =
-    let r = c.before.before in
-    let q = r.before.before.before.before in
-    let p = q.before.before.before.before in
-    simp length-set (r.put-answer.auto.0 ∙ q.put_word.auto.0 ∙ p.put-bytes.auto.0)
-
-returns : tie.Need-returns
+pub returns : goal.returns
 returns c =
-    let r = c.before.before in
-    let q = r.before.before.before.before in
-    let p = q.before.before.before.before in
-    as_ensured
-    (line_written
-    (asked p.before.before.before.before.before)
-    (named p.put-bytes.ensures)
-    (wrote q.put_word.ensures)
-    (wrote r.put-answer.ensures))
-
-pub put-line-spec : {M : Type 1} → statement M
-put-line-spec =
-    tie.close
-    (tie.spec
-    put-bytes-requires
-    add-put-word
-    put-word-requires
-    put-answer-requires
-    slice-write-d
-    (λ c. omega (arith, slice-write-d c, same_length c))
-    same_length
-    returns)
+    let n = c.put_word-numbered.ensures in
+    let e = c.put_answer-end.ensures in
+    let w = line_written (asked c.requires) (named c.put_bytes.ensures) (wrote (n.d_after, n.value)) (wrote (e.d_after, e.value)) in
+    record { d_after = w.written; value = w.ended }
