@@ -1,2 +1,4 @@
 // The routines of filters.
+#![tactic(auto)]
+
 pub mod filter;
