@@ -1,7 +1,7 @@
 -- What a row is answered by a leaf and by `not` before it: the leaf fits its column, so that both are answered by the holds-test, the one of its operator and the
 -- other of the opposite. Assumes nothing.
 use Prim.Native.Nat.{ℕ}
-use mathlib.Core.Bool.{Bool, true, false, not}
+use mathlib.Core.Bool.{Bool, not}
 use mathlib.Core.List.{List}
 use mathlib.Core.Path.{◌≡◌, refl, sym, ap, subst, ◌∙◌}
 use Rattle.values.specs.Outcomes.{Res, ok, Row, missing, present}
@@ -9,7 +9,7 @@ use Rattle.values.specs.laws.OutcomeLaws.{passing, going, gone}
 use Rattle.values.specs.Types.{Layout, number, bytes, layout}
 use Rattle.values.specs.declared.error.ErrorKind.TheVariants.{NotUtf8}
 use Rattle.expr.specs.Holds.{Tests, number_tests, bytes_tests, missing_meets, meets}
-use Rattle.expr.specs.Operators.{Binary, one, ordered, opposite_binary}
+use Rattle.expr.specs.Operators.{Binary, one, opposite_binary}
 use Rattle.expr.specs.Predicates.{test, binary}
 use Rattle.expr.specs.laws.HoldsLaws.{meets_opposite, missing_opposite, missing_unordered}
 use Rattle.sheet.specs.Values.{number_of, read_number, read_bytes, read_row, by_layout}
@@ -21,7 +21,7 @@ use Rattle.leaves.specs.Fitting.{Leaf}
 use Rattle.ask.specs.LeafAnswers.{row_at, predicate_in, row_answer}
 use Rattle.parse.specs.FilterText.{turn}
 use Rattle.filter.specs.FilterRoutines.{filter_row}
-use Rattle.filter.specs.NotOfLeaf.{LeafAndNot, MeetsOne, PresentMeetsOne, MissingMeetsOne, MissingMeetsNeither, NotOfLeaf}
+use Rattle.filter.specs.NotOfLeaf.{LeafAndNot, PresentMeetsOne, MissingMeetsOne, MissingMeetsNeither, NotOfLeaf}
 use Rattle.filterdemand.proofs.FittedLaws.{Fitted}
 use Rattle.filterdemand.proofs.FilterDemandProof.{columns_of, all_fitted, leaf_cell}
 
