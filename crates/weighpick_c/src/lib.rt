@@ -1,5 +1,7 @@
 // The routines under C's names, for programs in other languages: document 01's number is returned, and the count of bytes written, where there is one, is set in
 // every case.
+#![tactic(auto)]
+
 ghost use Rattle.std.specs.Prelude.{◌≡◌};
 ghost use Rattle.projection.specs.declared.question.Question.TheVariants.{Inclusive, Strict, Older};
 ghost use Rattle.answers.specs.Answers.{answer_number, answer_count};
