@@ -1,12 +1,14 @@
 -- What a projection left in its buffer, as the line of its answer; and both lines in theirs. Assumes nothing.
-use Prim.Native.Nat.{ℕ, ◌+◌, ◌≤◌}
+use Prim.Native.Nat.{ℕ, ◌+◌, ◌*◌, ◌≤◌, ◌<◌}
 use native.Mathlib.Omega.{arith}
 use mathlib.Core.List.{List}
 use mathlib.Core.Path.{◌≡◌, refl, sym, ap, ◌∙◌}
 use lib.ListN.{length, take, drop, length-append}
 use lib.Seq.{take_at, length-take-le}
 use borrow.Author.Tests.{le-ltb}
+use Rattle.std.specs.Prelude.{◌^◌}
 use Rattle.values.specs.Outcomes.{Res, ok, err}
+use Rattle.values.specs.laws.ErrorLaws.{error_range}
 use Rattle.projection.specs.Steps.{Projected, some, none}
 use Rattle.projection.specs.declared.question.Question.TheVariants.{Inclusive, Strict}
 use Rattle.write.specs.Written.{sheet_buffer}
@@ -17,6 +19,7 @@ use Rattle.values.specs.Characters.{ascii}
 use Rattle.text.specs.Text.{answer_line}
 use Rattle.text.specs.Program.{answer_in, projection_line, printed, output_size}
 use Rattle.text.specs.laws.ProgramLaws.{printed_fits}
+use Rattle.text.specs.laws.TextLaws.{line_few}
 use Rattle.text.proofs.Writes.{Wrote, then, kept}
 
 -- ---- a projection's answer, read back from its buffer
@@ -31,6 +34,11 @@ read_back : (r : Res (Projected (List ℕ))) (before : List ℕ) → take (answe
 read_back (ok (some q)) before = take_at q (drop (0 + length q) before) (length q) refl
 read_back (ok none) before = refl
 read_back (err e) before = refl
+
+two_digits : (r : Res (Projected (List ℕ))) → answer_number (answer_of r) < 10 ^ 2
+two_digits (ok (some q)) = omega arith
+two_digits (ok none) = omega arith
+two_digits (err e) = (error_range e).1
 
 -- a buffer that is long enough, before and after the call, and what is handed back
 pub record Asked (r : Res (Projected (List ℕ))) (before after : List ℕ) (answer : Answer) : Type 0 where
@@ -52,6 +60,12 @@ module _ {r : Res (Projected (List ℕ))} {before after : List ℕ} {answer : An
 
     pub count_taken : count ≡ length (take count after)
     count_taken = sym (length-take-le count after count_fits)
+
+    -- whatever it starts with, the line fits half of the output
+    pub line_half : {number : ℕ} (word : List ℕ) → length word ≤ 9 → number ≡ answer_number answer
+        → length (answer_line word number (take count after)) ≤ 2 * sheet_buffer
+    line_half word short n =
+        rw (n, answer_is) (omega (arith, short, line_few word (answer_number (answer_of r)) (take count after) (two_digits r)))
 
     pub line_is : {number : ℕ} (word : List ℕ) → number ≡ answer_number answer → answer_line word number (take count after) ≡ projection_line word r
     line_is word n = rw (n, c, answer_is, after_is, read_back r before)

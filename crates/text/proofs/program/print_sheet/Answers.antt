@@ -1,5 +1,6 @@
 -- `program::print_sheet` meets its contract: both projections are asked, and their lines written one after the other. Assumes nothing.
 use native.Mathlib.Nat.{zero-add}
+use Prim.Native.Nat.{ℕ, ◌+◌, ◌*◌, ◌≤◌}
 use native.Mathlib.Omega.{arith}
 use mathlib.Core.Path.{◌≡◌, ◌∙◌}
 use lib.Dec.{lit≤}
@@ -10,8 +11,8 @@ use Rattle.api.specs.Routines.{project_sheet}
 use Rattle.values.specs.Characters.{ascii}
 use Rattle.text.specs.Text.{answer_line}
 use Rattle.text.specs.Program.{output_size}
-use Rattle.text.proofs.ProgramReads.{Asked, line_is, first, second, both_fit, both, inside}
-use Rattle.text.proofs.Writes.{wrote, kept}
+use Rattle.text.proofs.ProgramReads.{Asked, line_half, line_is, first, second, both, inside}
+use Rattle.text.proofs.Writes.{wrote}
 use Rattle.text.proofs.program.print_sheet.Goals as goal
 use Rattle.text.proofs.program.print_sheet.Goals.{After-number, After-number-2}
 
@@ -46,21 +47,25 @@ second_is : (c : After-number-2)
     → answer_line (ascii "strict") c.number-2.result (take c.count-count-2.result c.strict_project-strict.new.out) ≡ second c.args.sheet.now
 second_is c = line_is (strict_asked c) c.count-count-2.ensures (ascii "strict") c.number-2.ensures
 
+-- at most half of the output is written first
+half_written : {end n : ℕ} → end ≡ 0 + n → n ≤ 2 * sheet_buffer → end ≤ 2 * sheet_buffer
+half_written e h = omega arith
+
+-- and at most the other half after it
+sum_within : {end n room : ℕ} → end ≤ 2 * sheet_buffer → n ≤ 2 * sheet_buffer → output_size ≤ room → end + n ≤ room
+sum_within e h r = omega arith
+
 pub put_line-end-requires : goal.put_line-end-requires
 put_line-end-requires c =
-    let size : length c.args.out.now ≡ output_size = omega arith in
-    let fit = both_fit c.args.sheet.now in
-    rw (first_is (goal.at.put_line-end-requires c).After-number) (omega (arith, fit, size))
+    let asked = inclusive_asked (goal.at.put_line-end-requires c).After-number in
+    sum_within {end = 0} (omega arith) (line_half asked c.count-count.ensures _ (lit≤ tt) c.number.ensures) (omega arith)
 
 pub put_line-requires : goal.put_line-requires
 put_line-requires c =
-    let line = first_is (goal.at.put_line-requires c).After-number in
-    let size : length c.args.out.now ≡ output_size = omega arith in
-    let fit = both_fit c.args.sheet.now in
-    let e = c.put_line-end.ensures in
-    let w = wrote (rw line at e.d_after, rw line at e.value) in
-    let same = kept (omega (arith, fit, size)) w in
-    rw (second_is (goal.at.put_line-requires c).After-number-2) (omega (arith, fit, size, w.ended, same))
+    let asked = inclusive_asked (goal.at.put_line-requires c).After-number in
+    let asked_2 = strict_asked (goal.at.put_line-requires c).After-number-2 in
+    let written = half_written c.put_line-end.ensures.value (line_half asked c.count-count.ensures _ (lit≤ tt) c.number.ensures) in
+    sum_within written (line_half asked_2 c.count-count-2.ensures _ (lit≤ tt) c.number-2.ensures) (omega arith)
 
 pub returns : goal.returns
 returns c =
