@@ -3,6 +3,7 @@ use Rattle.values.specs.Outcomes.{ok, err}
 use Rattle.answers.specs.Answers.{as_result}
 use Rattle.values.specs.laws.TypeResultLaws.{type_told, transform_told}
 use Rattle.api.specs.Routines.{transform_value, value_buffer}
+use Rattle.std.proofs.Common.{arith}
 use Rattle.api.proofs.Buffers.{settled_in}
 use Rattle.api.proofs.LiteralReads.{no_type, no_transform, value_answered}
 use Rattle.api.proofs.literal.transform_literal.Goals as goal
@@ -13,7 +14,7 @@ returns-in-Err c =
     let else = call in
     let a = else.args in
     let v = a.value.now in
-    let both = settled_in value_buffer (as_result (transform_value a.column_type a.transform a.width v)) else.if-out-lt-RECORD_SIZE.false
+    let both = settled_in value_buffer (as_result (transform_value a.column_type a.transform a.width v)) {out = a.out.now} (omega arith)
     (no_type a.column_type a.transform a.width v (type_told _ (err _) call.from_number.ensures c.in-Err.is)) in record {
       number = both.0;
       buffer = both.1;
@@ -27,7 +28,7 @@ returns-in-Err-from_numbers c =
     let else = call in
     let a = else.args in
     let v = a.value.now in
-    let both = settled_in value_buffer (as_result (transform_value a.column_type a.transform a.width v)) else.if-out-lt-RECORD_SIZE.false
+    let both = settled_in value_buffer (as_result (transform_value a.column_type a.transform a.width v)) {out = a.out.now} (omega arith)
     (no_transform
     a.column_type
     a.transform
@@ -49,7 +50,7 @@ returns c =
     let else = call in
     let a = else.args in
     let v = a.value.now in
-    let both = settled_in value_buffer (as_result (transform_value a.column_type a.transform a.width v)) else.if-out-lt-RECORD_SIZE.false
+    let both = settled_in value_buffer (as_result (transform_value a.column_type a.transform a.width v)) {out = a.out.now} (omega arith)
     (value_answered
     a.column_type
     a.transform

@@ -3,6 +3,7 @@ use Rattle.expr.specs.Operators.{project_limit}
 use Rattle.sheet.specs.laws.ResultLaws.{SheetTold, sheet_told, sheet_refused}
 use Rattle.write.specs.Written.{sheet_buffer}
 use Rattle.api.specs.Routines.{project_sheet}
+use Rattle.std.proofs.Common.{arith}
 use Rattle.api.proofs.Buffers.{settled_in}
 use Rattle.api.proofs.ProjectReads.{no_sheet, ready, sheet_answered}
 use Rattle.api.proofs.project.project_sheet.Goals as goal
@@ -25,15 +26,15 @@ returns-in-Err c =
     let s = a.sheet.now in
     let both = settled_in
     sheet_buffer
-    (project_sheet a.question s)
-    else.if-out-lt-SHEET_BUFFER.false
+    (project_sheet a.question s) {out = a.out.now}
+    (omega arith)
     (no_sheet a.question s (sheet_refused project_limit s read.read_sheet.ensures.value c.in-Err.is)) in record {
       number = both.0;
       buffer = both.1;
     }
 
 pub project_leaf-requires : goal.project_leaf-requires
-project_leaf-requires c = ready (told (goal.at.project_leaf-requires c).After-project_leaf-arg-1) c.if-out-lt-SHEET_BUFFER.false
+project_leaf-requires c = ready (told (goal.at.project_leaf-requires c).After-project_leaf-arg-1) (omega arith)
 
 pub returns : goal.returns
 returns c =
@@ -41,7 +42,7 @@ returns c =
     let at = leaf in
     let else = at in
     let a = else.args in
-    let both = settled_in sheet_buffer (project_sheet a.question a.sheet.now) else.if-out-lt-SHEET_BUFFER.false (sheet_answered (told (goal.at.returns c).After-project_leaf-arg-1) a.question leaf.project_leaf.ensures) in record {
+    let both = settled_in sheet_buffer (project_sheet a.question a.sheet.now) {out = a.out.now} (omega arith) (sheet_answered (told (goal.at.returns c).After-project_leaf-arg-1) a.question leaf.project_leaf.ensures) in record {
       number = both.0;
       buffer = both.1;
     }

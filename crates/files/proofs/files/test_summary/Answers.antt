@@ -2,6 +2,7 @@
 use Rattle.expr.specs.Operators.{holds_limit}
 use Rattle.sheet.specs.laws.ResultLaws.{sheet_told, sheet_refused, placed_told, taken_told}
 use Rattle.summary.specs.laws.SummaryLaws.{summary_told, summary_refused}
+use Rattle.std.proofs.Common.{arith}
 use Rattle.api.proofs.Buffers.{settled_in}
 use Rattle.files.specs.TestSummary.{test_summary, verdict_byte, verdict_buffer}
 use Rattle.files.proofs.FileReads.{no_sheet, no_summary, file_refused, verdict_written}
@@ -12,7 +13,7 @@ pub returns-in-Err : goal.returns-in-Err
 returns-in-Err c =
     let s = c.args.sheet.now in
     let f = c.args.summary.now in
-    let both = settled_in verdict_buffer (verdict_byte (test_summary s f)) c.if-out-lt-VERDICT_SIZE.false
+    let both = settled_in verdict_buffer (verdict_byte (test_summary s f)) {out = c.args.out.now} (omega arith)
     (no_sheet s f (sheet_refused holds_limit s c.read_sheet.ensures.value c.in-Err.is)) in record {
       number = both.0;
       buffer = both.1;
@@ -23,7 +24,7 @@ returns-in-Err-read_summary c =
     let s = c.args.sheet.now in
     let f = c.args.summary.now in
     let e = c.read_sheet.ensures in
-    let both = settled_in verdict_buffer (verdict_byte (test_summary s f)) c.if-out-lt-VERDICT_SIZE.false
+    let both = settled_in verdict_buffer (verdict_byte (test_summary s f)) {out = c.args.out.now} (omega arith)
     (no_summary s f (sheet_told holds_limit s e.value e.literals_read c.in-Ok.is) (summary_refused f c.read_summary.ensures c.in-Err-read_summary.is)) in record {
       number = both.0;
       buffer = both.1;
@@ -43,7 +44,7 @@ returns-in-Err-judge c =
     let s = c.args.sheet.now in
     let f = c.args.summary.now in
     let e = c.read_sheet.ensures in
-    let both = settled_in verdict_buffer (verdict_byte (test_summary s f)) c.if-out-lt-VERDICT_SIZE.false
+    let both = settled_in verdict_buffer (verdict_byte (test_summary s f)) {out = c.args.out.now} (omega arith)
     (file_refused s f (sheet_told holds_limit s e.value e.literals_read c.in-Ok.is) (summary_told f c.read_summary.ensures c.in-Ok-read_summary.is) c.judge.ensures c.in-Err-judge.is) in record {
       number = both.0;
       buffer = both.1;
@@ -54,8 +55,8 @@ returns-in-Ok-judge c =
     let s = c.args.sheet.now in
     let f = c.args.summary.now in
     let e = c.read_sheet.ensures in
-    let both = settled_in verdict_buffer (verdict_byte (test_summary s f)) {out = c.args.out.now} c.if-out-lt-VERDICT_SIZE.false
-    (verdict_written s f (sheet_told holds_limit s e.value e.literals_read c.in-Ok.is) (summary_told f c.read_summary.ensures c.in-Ok-read_summary.is) c.judge.ensures c.if-out-lt-VERDICT_SIZE.false c.in-Ok-judge.is c.number.ensures) in record {
+    let both = settled_in verdict_buffer (verdict_byte (test_summary s f)) {out = c.args.out.now} (omega arith)
+    (verdict_written s f (sheet_told holds_limit s e.value e.literals_read c.in-Ok.is) (summary_told f c.read_summary.ensures c.in-Ok-read_summary.is) c.judge.ensures (omega arith) c.in-Ok-judge.is c.number.ensures) in record {
       number = both.0;
       buffer = both.1;
     }
