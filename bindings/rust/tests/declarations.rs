@@ -140,7 +140,7 @@ fn function(text: &str, before: &str) -> Function {
 /// The functions of the source that have a C name: each is marked so that it keeps it.
 fn in_source(source: &str) -> Vec<Function> {
     let text = plain(source, "//", "\n");
-    let named = text.split("#[no_mangle]").skip(1).map(str::trim);
+    let named = text.split("#[unsafe(no_mangle)]").skip(1).map(str::trim);
     let named = named.map(|text| {
         // Behind the result come its contract and its body.
         let declared = parted(text, " ensures ").0;

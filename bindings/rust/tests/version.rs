@@ -35,7 +35,7 @@ fn the_library_tells_this_crate_s_version() {
 
 #[test]
 fn as_the_library_defines_it() {
-    let line = format!("version = versionNumber {}", env!("CARGO_PKG_VERSION"));
+    let line = format!("version = version_number {}", env!("CARGO_PKG_VERSION"));
     let line = line.replace('.', " ");
     assert!(DEFINITION.lines().any(|l| l == line), "{line}");
     let (_, behind) = SOURCE
