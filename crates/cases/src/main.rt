@@ -2,6 +2,7 @@
 // and wrong.
 #![tactic(auto)]
 
+ghost use Rattle.std.specs.Prelude.{OnErr, ◌≡◌, length};
 ghost use Rattle.std.specs.Io.{ReadsAtMost};
 
 use cases_judge::judge::{Question, is_right};
@@ -42,7 +43,8 @@ fn print_counts(rt: &impl Print, counts: Tally) -> io::Result<()> {
 
 // Reads n bytes to the start of a buffer, and hands back how many came; none where the buffer is too short.
 fn read_part(input: &mut impl Read, n: usize, buf: &mut [u8]) -> io::Result<usize>
-    ensures { ReadsAtMost result buf.new }
+    ensures came { ReadsAtMost result buf.new }
+    ensures failed { OnErr result (length buf.new ≡ length buf.old) }
 {
     if buf.len() < n {
         return Ok(0);
