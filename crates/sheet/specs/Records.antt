@@ -1,5 +1,5 @@
 -- Records: how literals and values stand in bytes. A value is here still the bytes of its content. Assumes nothing.
-use Rattle.std.specs.Prelude.{ℕ, ◌+◌, ◌-◌, ◌*◌, ◌/◌, cond, List, ◌≡◌, refl, eqb, length}
+use Rattle.std.specs.Prelude.{ℕ, ◌+◌, ◌-◌, ◌*◌, ◌/◌, cond, List, eqb, length}
 use Rattle.values.specs.Outcomes.{Res, ok, need, ◌>>=◌, ◌>>◌, Row, missing, present}
 use Rattle.values.specs.Types.{Layout, content_size, fits}
 use Rattle.values.specs.Words.{field, word, zero_at}
