@@ -1,5 +1,5 @@
 -- The routines over bytes: what a sheet, and a value to be transformed, are answered, and the rules of the lent buffer. Assumes nothing.
-use Rattle.std.specs.Prelude.{ℕ, cond, List, ltb, length}
+use Rattle.std.specs.Prelude.{ℕ, cond, List, nat_lt, length}
 use Rattle.values.specs.Outcomes.{Res, ◌>>=◌}
 use Rattle.values.specs.Types.{layout}
 use Rattle.expr.specs.Operators.{project_limit}
@@ -33,10 +33,10 @@ value_buffer = record_size
 
 -- 2 comes before every other check
 abbrev pub answered : ℕ → List ℕ → Res (Projected (List ℕ)) → Answer
-answered size out r = cond (ltb (length out) size) BufferTooSmall (answer_of r)
+answered size out r = cond (nat_lt (length out) size) BufferTooSmall (answer_of r)
 
 abbrev pub left_in : ℕ → List ℕ → Res (Projected (List ℕ)) → List ℕ
-left_in size out r = cond (ltb (length out) size) out (left_of out r)
+left_in size out r = cond (nat_lt (length out) size) out (left_of out r)
 
 -- ---- the contracts: what each routine answers, and what it leaves in the buffer, for all bytes
 module _ (question : Question) (s out : List ℕ) where

@@ -1,5 +1,5 @@
 -- The values that stand beside a column list: one record a column, as a row or as partition values. Assumes nothing.
-use Rattle.std.specs.Prelude.{ℕ, suc, ◌*◌, List, [], ◌∷◌, eqb, length}
+use Rattle.std.specs.Prelude.{ℕ, suc, ◌*◌, List, [], ◌∷◌, ◌==◌, length}
 use Rattle.values.specs.Outcomes.{Res, ok, err, need, each, ◌>>=◌, ◌>>◌, Row}
 use Rattle.values.specs.Types.{layout}
 use Rattle.values.specs.declared.datatypes.PrimitiveType.{PrimitiveType}
@@ -42,7 +42,7 @@ read_cell side c = read_row (read_bytes (type_of side c.column)) c.row
 unfoldable pub cells_of : Side → List ℕ → List ℕ → Res (List Cell)
 cells_of side c v = do
   cs ← columns c
-  need (eqb (length v) (record_size * length cs)) Malformed
+  need (length v == record_size * length cs) Malformed
   cells ← cells_from side v 0 cs
   read ← each (read_cell side) cells
   ok cells

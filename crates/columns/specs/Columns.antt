@@ -1,5 +1,5 @@
 -- Column lists: the columns that a filter can name, as bytes. One rule of document 02 a line; what fails one is 3. Assumes nothing.
-use Rattle.std.specs.Prelude.{ℕ, zero, suc, ◌+◌, ◌-◌, ◌*◌, ◌/◌, ◌%◌, Bool, true, not, ◌&&◌, List, [], ◌∷◌, ◌++◌, map, ltb, leb, eqb, length}
+use Rattle.std.specs.Prelude.{ℕ, zero, suc, ◌+◌, ◌-◌, ◌*◌, ◌/◌, ◌%◌, Bool, true, not, ◌&&◌, List, [], ◌∷◌, ◌++◌, map, nat_lt, nat_le, ◌==◌, length}
 use Rattle.values.specs.Ascending.{elem}
 use Rattle.values.specs.Characters.{ascii, is_letter, leading}
 use Rattle.values.specs.Order.{compare_bytes}
@@ -32,7 +32,7 @@ reserved = ascii "and" ∷ ascii "or" ∷ ascii "not" ∷ ascii "startswith" ∷
 -- "1 to 16 lower-case letters, zero-filled"; a reserved word is 3
 abbrev pub checked_name : List ℕ → List ℕ → Res (List ℕ)
 checked_name bytes name = do
-  need (ltb 0 (length name)) Malformed
+  need (nat_lt 0 (length name)) Malformed
   need (zero_at (length name) (name_size - length name) bytes) Malformed
   need (not (elem compare_bytes name reserved)) Malformed
   ok name
@@ -43,8 +43,8 @@ name_in bytes = checked_name bytes (leading is_letter bytes)
 -- 02: "a head with next and operator 0"
 abbrev pub plain_head : List ℕ → Res Head
 plain_head r = do
-  need (eqb (next_in r) 0) Malformed
-  need (eqb (word 2 2 r) 0) Malformed
+  need (next_in r == 0) Malformed
+  need (word 2 2 r == 0) Malformed
   fields r
 
 unfoldable pub column : List ℕ → Res Column
@@ -70,9 +70,9 @@ names_apart (n ∷ ns) = not (elem compare_bytes n ns) && names_apart ns
 
 unfoldable pub columns : List ℕ → Res (List Column)
 columns c = do
-  need (ltb 0 (length c)) Malformed
-  need (eqb (length c % entry_size) 0) Malformed
-  need (leb (length c) (entry_size * column_limit)) Malformed
+  need (nat_lt 0 (length c)) Malformed
+  need (length c % entry_size == 0) Malformed
+  need (nat_le (length c) (entry_size * column_limit)) Malformed
   cs ← each (λ k. column (entry_at c k)) (first_numbers (length c / entry_size))
   need (names_apart (map (λ d. d.name) cs)) Malformed
   ok cs

@@ -1,5 +1,5 @@
 -- A leaf of a filter, looked up in the column list and fitted to its column. Assumes nothing.
-use Rattle.std.specs.Prelude.{ℕ, zero, suc, Bool, false, cond, not, ◌&&◌, ◌||◌, List, [], ◌∷◌, leb, ℤ, length}
+use Rattle.std.specs.Prelude.{ℕ, zero, suc, Bool, false, cond, not, ◌&&◌, ◌||◌, List, [], ◌∷◌, nat_le, ℤ, length}
 use Rattle.std.proofs.Math.Option.{Option, some, none}
 use Rattle.values.specs.Order.{compare_bytes, is_equal}
 use Rattle.values.specs.Types.{Layout, number, bytes, layout, in_type, same_type}
@@ -26,7 +26,7 @@ pub record Leaf : Type 0 where
 -- a byte string is at most so long
 abbrev pub fits_length : Layout → ℕ → Bool
 fits_length (number n) k = false
-fits_length (bytes n) k = leb k n
+fits_length (bytes n) k = nat_le k n
 
 -- 02: "A number goes with types 1 to 8, text with 9 and 10; a literal that doesn't fit its column, as text that isn't UTF-8 in a String, is 9"
 abbrev pub fits : PrimitiveType → Literal → Bool

@@ -1,5 +1,5 @@
 -- The filter in a text t, by the columns that are declared: what it may hold, and the order of 10, 9 and 10. Assumes nothing.
-use Rattle.std.specs.Prelude.{ℕ, suc, ◌≤◌, List, [], ◌∷◌, ◌↔◌, ◌≡◌, refl, leb, length}
+use Rattle.std.specs.Prelude.{ℕ, suc, ◌≤◌, List, [], ◌∷◌, ◌↔◌, ◌≡◌, refl, nat_le, length}
 use Rattle.values.specs.Characters.{ascii}
 use Rattle.values.specs.Order.{compare_bytes}
 use Rattle.values.specs.Outcomes.{Res, ok, err, need, ◌>>=◌, ◌>>◌}
@@ -38,10 +38,10 @@ whole nothing = err OutsideGrammar
 -- 02: "10 for bytes comes before 9, 9 before the other two"
 unfoldable pub filter_in : List Column → List ℕ → Res (Filter Leaf)
 filter_in cs t = do
-  need (leb (length t) text_limit) TooLarge
+  need (nat_le (length t) text_limit) TooLarge
   f ← whole (disjunction (suc (length (symbols cs t))) (symbols cs t))
-  need (leb (leaves f) leaf_limit) TooLarge
-  need (leb (depth f) bracket_limit) TooLarge
+  need (nat_le (leaves f) leaf_limit) TooLarge
+  need (nat_le (depth f) bracket_limit) TooLarge
   ok f
 
 -- what it is: the filter that the grammar derives from the symbols that the text is, within the limits (`FilterMeansLaws.filter_means`)

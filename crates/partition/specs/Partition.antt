@@ -1,5 +1,5 @@
 -- The transform of a row: its partition value, or a refusal. The order of the lines is the order of the checks. Assumes nothing.
-use Rattle.std.specs.Prelude.{ℕ, Bool, true, false, not, cond, ◌||◌, List, ◌≡◌, refl, ltb, leb, ℤ}
+use Rattle.std.specs.Prelude.{ℕ, Bool, true, false, not, cond, ◌||◌, List, ◌≡◌, refl, nat_lt, nat_le, ℤ}
 use Rattle.values.specs.Outcomes.{Res, ok, err, need, ◌>>=◌, ◌>>◌, Row, missing, present}
 use Rattle.values.specs.Types.{same_type, in_type}
 use Rattle.values.specs.declared.error.ErrorKind.{ErrorKind}
@@ -23,8 +23,8 @@ widest_int_width = 2147483647
 -- 8 for width 0 and below the type's lowest value
 abbrev pub truncate_number : PrimitiveType → ℕ → ℤ → Res (Row ℤ)
 truncate_number ty width v = do
-  need (not (same_type ty Int) || leb width widest_int_width) DataInvalid
-  need (ltb 0 width) Overflow
+  need (not (same_type ty Int) || nat_le width widest_int_width) DataInvalid
+  need (nat_lt 0 width) Overflow
   need (in_type ty (truncated width v)) Overflow
   ok (present (truncated width v))
 

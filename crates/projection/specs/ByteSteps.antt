@@ -1,5 +1,5 @@
 -- The steps for strings and binaries under Truncate, with T the transform and w its width. Assumes nothing.
-use Rattle.std.specs.Prelude.{ℕ, cond, List, [], ◌∷◌, ◌≡◌, refl, eqb, ltb, leb, length}
+use Rattle.std.specs.Prelude.{ℕ, cond, List, [], ◌∷◌, ◌≡◌, refl, ◌==◌, nat_lt, nat_le, length}
 use Rattle.values.specs.Order.{compare_bytes}
 use Rattle.values.specs.Outcomes.{Res, ok}
 use Rattle.values.specs.Types.{same_type}
@@ -15,7 +15,7 @@ Step = Res (Projected (Test (List ℕ)))
 
 -- 01: "Let n be L's code points, w the width"; of a Binary, 02: "counting bytes". What n = w gives, what n < w gives, what n > w gives
 abbrev pub by_length : ℕ → ℕ → Projected (Test (List ℕ)) → Projected (Test (List ℕ)) → Step → Step
-by_length n w whole short long = cond (eqb n w) (ok whole) (cond (ltb n w) (ok short) long)
+by_length n w whole short long = cond (n == w) (ok whole) (cond (nat_lt n w) (ok short) long)
 
 -- ---- inclusive StartsWith and NotStartsWith. `count` says how long a literal is
 
@@ -34,7 +34,7 @@ module _ (T : List ℕ → Res (List ℕ)) (count : List ℕ → ℕ) (w : ℕ) 
 
   -- 02, #102, of a Binary: "inclusive NotStartsWith does so up to the width and has no predicate for a longer literal"
   abbrev pub binary_not_starts : List ℕ → Step
-  binary_not_starts l = cond (leb (count l) w) (with_literal not_starts_with (T l)) (ok none)
+  binary_not_starts l = cond (nat_le (count l) w) (with_literal not_starts_with (T l)) (ok none)
 
 -- ---- inclusive. 01: "inclusive < and ≤ give ≤ T(L); > and ≥ give ≥ T(L)"; "Eq, NotEq, In, NotIn as in the table"; of a Binary, 02: "The rest goes as for strings,
 -- counting bytes"

@@ -1,5 +1,5 @@
 -- Records: how literals and values stand in bytes. A value is here still the bytes of its content. Assumes nothing.
-use Rattle.std.specs.Prelude.{ℕ, ◌+◌, ◌-◌, ◌*◌, ◌/◌, cond, List, ◌≡◌, refl, eqb, length}
+use Rattle.std.specs.Prelude.{ℕ, ◌+◌, ◌-◌, ◌*◌, ◌/◌, cond, List, ◌==◌, length}
 use Rattle.values.specs.Outcomes.{Res, ok, need, ◌>>=◌, ◌>>◌, Row, missing, present}
 use Rattle.values.specs.Types.{Layout, content_size, fits}
 use Rattle.values.specs.Words.{field, word, zero_at}
@@ -28,7 +28,7 @@ length_in r = word 2 2 r
 
 unfoldable pub content : Layout → List ℕ → Res (List ℕ)
 content layout r = do
-  need (eqb (length r) record_size) Malformed
+  need (length r == record_size) Malformed
   need (fits layout (length_in r)) Malformed
   need (zero_at (header_size + length_in r) (content_size - length_in r) r) Malformed
   ok (field header_size (length_in r) r)
@@ -39,7 +39,7 @@ missing_mark = 65535
 
 abbrev pub missing_value : List ℕ → Res (Row (List ℕ))
 missing_value r = do
-  need (eqb (length r) record_size) Malformed
+  need (length r == record_size) Malformed
   need (zero_at header_size content_size r) Malformed
   ok missing
 
@@ -51,5 +51,5 @@ present_value layout r = do
 -- 01: "A value to be transformed or tested is one literal record with next 0"
 unfoldable pub value : Layout → List ℕ → Res (Row (List ℕ))
 value layout r = do
-  need (eqb (next_in r) 0) Malformed
-  cond (eqb (length_in r) missing_mark) (missing_value r) (present_value layout r)
+  need (next_in r == 0) Malformed
+  cond (length_in r == missing_mark) (missing_value r) (present_value layout r)

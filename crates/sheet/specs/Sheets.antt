@@ -1,5 +1,5 @@
 -- Sheets: a leaf over one column, with the transform that splits the table, as bytes. One rule of document 01 a line; what fails one is 3. Assumes nothing.
-use Rattle.std.specs.Prelude.{ℕ, zero, suc, ◌-◌, ◌*◌, ◌%◌, cond, List, [], ◌∷◌, ◌++◌, ◌≡◌, refl, ltb, leb, eqb, length, replicate}
+use Rattle.std.specs.Prelude.{ℕ, zero, suc, ◌-◌, ◌*◌, ◌%◌, cond, List, [], ◌∷◌, ◌++◌, ◌≡◌, refl, nat_lt, nat_le, ◌==◌, length, replicate}
 use Rattle.values.specs.Outcomes.{Res, ok, err, need, each, ◌>>=◌, ◌>>◌}
 use Rattle.values.specs.Numbered.{find}
 use Rattle.values.specs.Types.{types, layout}
@@ -21,9 +21,9 @@ abbrev pub chain : ℕ → List ℕ → ℕ → Res (List ℕ)
 chain zero s k = ok []
 chain (suc steps) s k =
     let next = next_in (record_at s k) in
-    cond (eqb next 0) (ok []) do
-      need (ltb k next) Malformed
-      need (ltb next (record_count s)) Malformed
+    cond (next == 0) (ok []) do
+      need (nat_lt k next) Malformed
+      need (nat_lt next (record_count s)) Malformed
       ns ← chain steps s next
       ok (next ∷ ns)
 
@@ -78,9 +78,9 @@ pub record Sheet : Type 0 where
 -- than the records; since the numbers on a chain rise, no chain has more
 unfoldable pub sheet : ℕ → List ℕ → Res Sheet
 sheet most s = do
-  need (ltb 0 (length s)) Malformed
-  need (eqb (length s % record_size) 0) Malformed
-  need (leb (length s) (record_size * suc most)) Malformed
+  need (nat_lt 0 (length s)) Malformed
+  need (length s % record_size == 0) Malformed
+  need (nat_le (length s) (record_size * suc most)) Malformed
   operator ← find operators (word 2 2 s)
   h ← fields s
   ns ← chain (record_count s) s 0

@@ -1,6 +1,6 @@
 -- Files known only by their ends: what a summary says of a file, and how it stands in bytes. One rule of document 02, #104, a line; what fails one is 3.
 -- Assumes nothing.
-use Rattle.std.specs.Prelude.{ℕ, ◌+◌, ◌*◌, ◌%◌, Bool, true, false, cond, List, eqb, leb, length}
+use Rattle.std.specs.Prelude.{ℕ, ◌+◌, ◌*◌, ◌%◌, Bool, true, false, cond, List, ◌==◌, nat_le, length}
 use Rattle.values.specs.Numbered.{find}
 use Rattle.values.specs.Outcomes.{Res, ok, err, need, ◌>>=◌, ◌>>◌, Row, missing, present}
 use Rattle.values.specs.Types.{types, layout}
@@ -37,10 +37,10 @@ summary_size = flag_at + 1
 
 -- 02: "1 for a missing value, plus 2 for none present"
 abbrev pub says_missing : ℕ → Bool
-says_missing flag = eqb (flag % 2) 1
+says_missing flag = flag % 2 == 1
 
 abbrev pub says_none : ℕ → Bool
-says_none flag = leb 2 flag
+says_none flag = nat_le 2 flag
 
 abbrev pub highest_flag : ℕ
 highest_flag = 1 + 2
@@ -61,9 +61,9 @@ ends_of false (present l) (present h) = ok (l to h)
 -- 02: "any other shape is 3"
 unfoldable pub summary : List ℕ → Res Summary
 summary f = do
-  need (eqb (length f) summary_size) Malformed
+  need (length f == summary_size) Malformed
   column ← find types (word type_at 1 f)
-  need (leb (word flag_at 1 f) highest_flag) Malformed
+  need (nat_le (word flag_at 1 f) highest_flag) Malformed
   lowest ← value (layout column) (record_at f 0)
   highest ← value (layout column) (record_at f 1)
   ends ← ends_of (says_none (word flag_at 1 f)) lowest highest

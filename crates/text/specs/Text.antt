@@ -1,6 +1,6 @@
 -- What program `weighpick` prints. Document 01: "prints two lines: question, answer number, then, after 0, operator and literals, one space apart. Numbers are
 -- decimal; strings lower-case hexadecimal, an empty one `-`." Assumes nothing.
-use Rattle.std.specs.Prelude.{ℕ, zero, suc, ◌+◌, ◌-◌, ◌/◌, ◌%◌, cond, List, [], ◌∷◌, ◌++◌, map, ◌≡◌, refl, ltb, ℤ, pos, negsuc}
+use Rattle.std.specs.Prelude.{ℕ, zero, suc, ◌+◌, ◌-◌, ◌/◌, ◌%◌, cond, List, [], ◌∷◌, ◌++◌, map, ◌≡◌, refl, nat_lt, ℤ, pos, negsuc}
 use Prim.Native.Char.{code}
 use Rattle.values.specs.Characters.{ascii}
 use Rattle.values.specs.Outcomes.{Res, ok, err}
@@ -26,14 +26,14 @@ newline = code "\n"
 
 -- the character of a digit: 0 to 9, then a to f
 abbrev pub digit : ℕ → ℕ
-digit v = cond (ltb v 10) (code "0" + v) (code "a" + (v - 10))
+digit v = cond (nat_lt v 10) (code "0" + v) (code "a" + (v - 10))
 
 -- a number below ten is one digit; any other is the digits of its tenth part, and then its last digit. `most` is the most digits, and ends the recursion
 abbrev pub digits_within : ℕ → ℕ → List ℕ
 digits_within zero n = []
 digits_within (suc most) n =
     let longer = digits_within most (n / 10) ++ (digit (n % 10) ∷ []) in
-    cond (ltb n 10) (digit n ∷ []) longer
+    cond (nat_lt n 10) (digit n ∷ []) longer
 
 -- n has at most n + 1 digits
 unfoldable pub digits : ℕ → List ℕ

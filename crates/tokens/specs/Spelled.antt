@@ -1,6 +1,6 @@
 -- Words, signs, literals and brackets as they stand in a text, with document 02's words beside each: what a text begins with, and the text after it. `Tokens.token`
 -- finds just that. Assumes nothing.
-use Rattle.std.specs.Prelude.{ℕ, Bool, true, false, List, [], ◌∷◌, ◌++◌, ◌↔◌, ◌≡◌, eqb, pos, neg_ℤ}
+use Rattle.std.specs.Prelude.{ℕ, Bool, true, false, List, [], ◌∷◌, ◌++◌, ◌↔◌, ◌≡◌, ◌==◌, pos, neg_ℤ}
 use Prim.Native.Char.{code}
 use Rattle.values.specs.Characters.{is_letter, is_digit}
 use Rattle.values.specs.SomeEvery.{every}
@@ -13,7 +13,7 @@ begins_with passes [] = false
 begins_with passes (b ∷ s) = passes b
 
 abbrev pub is_equals : ℕ → Bool
-is_equals b = eqb b (code "=")
+is_equals b = b == code "="
 
 pub data Spelled : List ℕ → Token → List ℕ → Type 0 where
   -- "letters in a row are one word": as many as there are

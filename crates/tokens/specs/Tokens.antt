@@ -1,5 +1,5 @@
 -- The words, signs and literals of a filter's text. Assumes nothing.
-use Rattle.std.specs.Prelude.{ℕ, ◌+◌, ◌-◌, ◌*◌, Bool, cond, not, List, [], ◌∷◌, ◌≡◌, refl, eqb, ℤ, pos, negsuc, neg_ℤ}
+use Rattle.std.specs.Prelude.{ℕ, ◌+◌, ◌-◌, ◌*◌, Bool, cond, not, List, [], ◌∷◌, ◌≡◌, refl, ◌==◌, ℤ, pos, negsuc, neg_ℤ}
 use Prim.Native.Char.{code}
 use Rattle.values.specs.Characters.{ascii, is_letter, is_digit, leading, following}
 use Rattle.expr.specs.Operators.{Binary, less_than, less_than_or_eq, greater_than, greater_than_or_eq, eq, not_eq}
@@ -18,7 +18,7 @@ pub data Taken : Type 0 where
 
 -- 02: "Spaces may stand around words, signs and literals"; around brackets too. A space is the byte 20 hexadecimal
 abbrev pub is_space : ℕ → Bool
-is_space b = eqb b (code " ")
+is_space b = b == code " "
 
 -- 02: "letters in a row are one word"
 abbrev pub word_at : List ℕ → Taken
@@ -40,7 +40,7 @@ minus_at (b ∷ s) = cond (is_digit b) (decimal_at (λ n. neg_ℤ (pos n)) (b �
 
 -- 02: "text in single quotes holding no quote": here after the first quote
 abbrev pub is_text : ℕ → Bool
-is_text b = not (eqb b (code "'"))
+is_text b = not (b == code "'")
 
 abbrev pub unquoted : List ℕ → List ℕ → Taken
 unquoted text [] = taken unreadable []
@@ -52,7 +52,7 @@ quoted_at s = unquoted (leading is_text s) (following is_text s)
 -- 02: "(`<`, `<=`, `>`, `>=`, `=`, `!=`, `startswith`)": a sign is the longest that fits. What the text is read as with `=` as its next character, and without
 abbrev pub longest : Token → Token → List ℕ → Taken
 longest with without [] = taken without []
-longest with without (b ∷ s) = cond (eqb b (code "=")) (taken with s) (taken without (b ∷ s))
+longest with without (b ∷ s) = cond (b == code "=") (taken with s) (taken without (b ∷ s))
 
 -- a text that does not begin with a space
 abbrev pub token : List ℕ → Taken
@@ -60,14 +60,14 @@ token [] = taken unreadable []
 token (b ∷ s) =
     cond (is_letter b) (word_at (b ∷ s))
     (cond (is_digit b) (decimal_at pos (b ∷ s))
-    (cond (eqb b (code "-")) (minus_at s)
-    (cond (eqb b (code "'")) (quoted_at s)
-    (cond (eqb b (code "(")) (taken opening s)
-    (cond (eqb b (code ")")) (taken closing s)
-    (cond (eqb b (code "<")) (longest (sign less_than_or_eq) (sign less_than) s)
-    (cond (eqb b (code ">")) (longest (sign greater_than_or_eq) (sign greater_than) s)
-    (cond (eqb b (code "=")) (taken (sign eq) s)
-    (cond (eqb b (code "!")) (longest (sign not_eq) unreadable s)
+    (cond (b == code "-") (minus_at s)
+    (cond (b == code "'") (quoted_at s)
+    (cond (b == code "(") (taken opening s)
+    (cond (b == code ")") (taken closing s)
+    (cond (b == code "<") (longest (sign less_than_or_eq) (sign less_than) s)
+    (cond (b == code ">") (longest (sign greater_than_or_eq) (sign greater_than) s)
+    (cond (b == code "=") (taken (sign eq) s)
+    (cond (b == code "!") (longest (sign not_eq) unreadable s)
     (taken unreadable s))))))))))
 
 -- `not` and the letters after it are one word, and `<` is not `<=` where a space stands between

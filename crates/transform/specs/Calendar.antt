@@ -1,6 +1,5 @@
 -- Iceberg's Year and Month of a day, counted from 1970 and from January 1970. A day is counted from 1970-01-01. Assumes nothing.
-use Rattle.std.specs.Prelude.{ℕ, suc, ◌+◌, ◌-◌, ◌*◌, Bool, true, ◌&&◌, ◌↔◌, ◌≡◌, refl, ℤ, pos, negsuc, neg_ℤ, ◌+ℤ◌, ◌-ℤ◌, ◌*ℤ◌, ◌≤ℤ◌, ◌<ℤ◌}
-use Rattle.std.specs.Int.Signed.{le_z}
+use Rattle.std.specs.Prelude.{ℕ, suc, ◌+◌, ◌-◌, ◌*◌, Bool, true, ◌&&◌, ◌↔◌, ◌≡◌, refl, ℤ, pos, negsuc, neg_ℤ, ◌+ℤ◌, ◌-ℤ◌, ◌*ℤ◌, ◌≤ℤ◌, ◌<ℤ◌, int_le}
 use Rattle.transform.specs.Count.{before, count_off}
 use Rattle.transform.specs.Gregorian.{leap, year_length, month_length, first_day, first_of_month, cycle_year, cycle_day, year_at, month_in}
 
@@ -12,7 +11,7 @@ abbrev pub last_calendar_day : ℤ
 last_calendar_day = pos 95026236
 
 unfoldable pub in_calendar : ℤ → Bool
-in_calendar d = le_z first_calendar_day d && le_z d last_calendar_day
+in_calendar d = int_le first_calendar_day d && int_le d last_calendar_day
 
 -- `Gregorian` counts from a year that 400 divides: here year -262400, whose first day lies 96559160 days before 1970-01-01
 -- (`CalendarLaws.epoch`)

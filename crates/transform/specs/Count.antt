@@ -1,5 +1,5 @@
 -- Counting off. Days are laid out in parts, one after the other: part k is `len k` days long. Assumes nothing.
-use Rattle.std.specs.Prelude.{ℕ, zero, suc, ◌+◌, ◌-◌, cond, ltb}
+use Rattle.std.specs.Prelude.{ℕ, zero, suc, ◌+◌, ◌-◌, cond, nat_lt}
 
 -- the first day of part k: the days of all the parts before it
 unfoldable pub before : (ℕ → ℕ) → ℕ → ℕ
@@ -11,4 +11,4 @@ unfoldable pub count_off : (ℕ → ℕ) → ℕ → ℕ → ℕ → ℕ
 count_off len zero k d = k
 count_off len (suc n) k d =
     let on = count_off len n (suc k) (d - len k) in
-    cond (ltb d (len k)) k on
+    cond (nat_lt d (len k)) k on

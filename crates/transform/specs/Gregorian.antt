@@ -1,10 +1,10 @@
 -- The proleptic Gregorian calendar from its public rule, on natural numbers: years are counted from a year 0 that 400 divides, days from the first
 -- day of that year, and months from January, which is month 0. Assumes nothing.
-use Rattle.std.specs.Prelude.{ℕ, ◌+◌, ◌-◌, ◌*◌, ◌/◌, ◌%◌, Bool, cond, not, ◌&&◌, ◌||◌, List, [], ◌∷◌, eqb, get_or}
+use Rattle.std.specs.Prelude.{ℕ, ◌+◌, ◌-◌, ◌*◌, ◌/◌, ◌%◌, Bool, cond, not, ◌&&◌, ◌||◌, List, [], ◌∷◌, ◌==◌, slice_index}
 use Rattle.transform.specs.Count.{before, count_off}
 
 abbrev pub divisible : ℕ → ℕ → Bool
-divisible y k = eqb (y % k) 0
+divisible y k = y % k == 0
 
 -- divisible by 4, and not by 100 unless by 400
 unfoldable pub leap : ℕ → Bool
@@ -18,7 +18,7 @@ abbrev pub month_lengths : Bool → List ℕ
 month_lengths l = 31 ∷ cond l 29 28 ∷ 31 ∷ 30 ∷ 31 ∷ 30 ∷ 31 ∷ 31 ∷ 30 ∷ 31 ∷ 30 ∷ 31 ∷ []
 
 unfoldable pub month_length : Bool → ℕ → ℕ
-month_length l m = get_or (month_lengths l) m 0
+month_length l m = slice_index (month_lengths l) m
 
 -- the first day of year y
 abbrev pub first_day : ℕ → ℕ

@@ -1,15 +1,17 @@
--- The `else` of an `if let` for a column type: what is known there of the type. Assumes nothing.
-use Rattle.std.proofs.Common.{◌≡◌, false, List, [], ◌∷◌, map}
-use types.Run.{OneOf}
+-- The `else` of an `if let` for String: what is known there of the column type. Assumes nothing.
+use Rattle.std.proofs.Common.{◌≡◌, ◌≢◌, false, refl}
 use Rattle.values.specs.Types.{same_type}
 use Rattle.values.specs.declared.datatypes.PrimitiveType.{PrimitiveType}
-use Rattle.values.proofs.Arms.{position, but, agree}
-use Rattle.values.specs.contracts.datatypes.PrimitiveType.{enum}
+use Rattle.values.specs.declared.datatypes.PrimitiveType.TheVariants.{Int, Long, Date, Time, Timestamp, Timestamptz, TimestampNs, TimestamptzNs, String, Binary}
 
-abbrev others : PrimitiveType → List PrimitiveType
-others kind = but enum tt (kind ∷ [])
-
--- for a kind that is written out the last argument is `refl`
-pub other_type : (t kind : PrimitiveType) → OneOf (map (position enum) (others kind)) (position enum t)
-    → map (λ u. same_type u kind) (others kind) ≡ map (λ u. false) (others kind) → same_type t kind ≡ false
-other_type t kind = agree enum tt (λ u. same_type u kind) (λ u. false) (others kind) t
+pub not_string : (t : PrimitiveType) → t ≢ String → same_type t String ≡ false
+not_string Int other = refl
+not_string Long other = refl
+not_string Date other = refl
+not_string Time other = refl
+not_string Timestamp other = refl
+not_string Timestamptz other = refl
+not_string TimestampNs other = refl
+not_string TimestamptzNs other = refl
+not_string String other = absurd (other refl)
+not_string Binary other = refl

@@ -2,7 +2,7 @@
 use Rattle.std.specs.Prelude.{◌≡◌, ℕ, zero, suc, ◌+◌, ◌-◌, ◌*◌, ◌/◌, ◌%◌, ◌^◌, ◌<◌, Bool, cond, List, [], ◌∷◌, ◌++◌, length, take, drop, ℤ, pos, negsuc, ◌==◌, nat_lt, slice_index, refl}
 use Rattle.values.specs.Types.{half}
 
--- each member of a list is a byte; past its end `get_or` gives 0, which is one
+-- each member of a list is a byte; past its end `slice_index` gives 0, which is one
 abbrev pub AllBytes : List ℕ → Type 0
 AllBytes bs = (i : ℕ) → slice_index bs i < 256
 

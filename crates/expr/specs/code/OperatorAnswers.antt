@@ -1,5 +1,5 @@
 -- What each enum of the code says, as the definitions have it. Assumes nothing.
-use Rattle.std.specs.Prelude.{ℕ, Bool, true, false, not, List, [], ◌∷◌, eqb}
+use Rattle.std.specs.Prelude.{ℕ, Bool, true, false, not, List, [], ◌∷◌, ◌==◌}
 use Rattle.values.specs.Outcomes.{Res, ok, err}
 use Rattle.values.specs.Order.{is_less, is_equal}
 use Rattle.values.specs.code.Places.{flip}
@@ -32,8 +32,8 @@ negated NotIn = In
 
 -- an operator of the arity takes so many literals
 abbrev pub takes : Operator → ℕ → Bool
-takes (none o) n = eqb n 0
-takes (one o) n = eqb n 1
+takes (none o) n = n == 0
+takes (one o) n = n == 1
 takes (many o) n = true
 
 -- a leaf by its operator and its literals in their order: of an operator that takes one the first counts, and `other` stands for it where there is none

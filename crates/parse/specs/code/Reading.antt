@@ -1,5 +1,5 @@
 -- What the routines that read a filter give, as the grammar has it. `after` gives the symbols of the text from a place on, `ask` a leaf's answer. Assumes nothing.
-use Rattle.std.specs.Prelude.{ℕ, ◌+◌, ◌≤◌, ◌<◌, Bool, true, false, List, ◌≡◌, ltb, length}
+use Rattle.std.specs.Prelude.{ℕ, ◌+◌, ◌≤◌, ◌<◌, Bool, true, false, List, ◌≡◌, nat_lt, length}
 use Rattle.values.specs.Outcomes.{Res}
 use Rattle.meets.specs.Tested.{held_as}
 use Rattle.meets.specs.declared.held.Held.{Held}
@@ -36,7 +36,7 @@ filter_to next count deep answer ahead past =
 module _ (after : ℕ → List (Symbol Leaf)) (size : ℕ) (ask : Leaf → Res Bool) where
   -- what is told of a filter under so many nots and open brackets: where too many are open, only that
   pub record Tells (negate : Bool) (opened : ℕ) (deep : Bool) (count : ℕ) (answer : Held) (f : Filter Leaf) : Type 0 where
-    pub deeper : deep ≡ ltb bracket_limit (opened + depth f)
+    pub deeper : deep ≡ nat_lt bracket_limit (opened + depth f)
     pub counted : deep ≡ false → count ≡ leaves f
     pub answers : deep ≡ false → answer ≡ held_as (answered ask (read turn negate f))
 

@@ -1,5 +1,5 @@
 -- What the code that reads sheets answers, as the definitions have it: its enums, a walk's count, and the records that it names. Assumes nothing.
-use Rattle.std.specs.Prelude.{ℕ, suc, ◌+◌, ◌*◌, ◌≤◌, ◌<◌, Bool, true, false, cond, ◌&&◌, List, [], ◌∷◌, map, ◌++◌, ◌≡◌, eqb, ltb, ℤ, pos, length, get_or, take}
+use Rattle.std.specs.Prelude.{ℕ, suc, ◌+◌, ◌*◌, ◌≤◌, ◌<◌, Bool, true, false, cond, ◌&&◌, List, [], ◌∷◌, map, ◌++◌, ◌≡◌, ◌==◌, nat_lt, ℤ, pos, length, get_or, take}
 use Rattle.values.specs.Numbered.{find}
 use Rattle.values.specs.Outcomes.{Res, ok, err, need, ◌>>=◌, ◌>>◌, Row, missing, present}
 use Rattle.values.specs.Types.{Layout, number, bytes, layout, content_size, fits, in_range}
@@ -87,8 +87,8 @@ malformed_chain = suc holds_limit
 unfoldable pub literal_after : Layout → List ℕ → ℕ → ℕ
 literal_after l s at =
     let n = next_in (record_at s at) in
-    let sound = ltb at n && ltb n (record_count s) && is_ok (content l (record_at s n)) in
-    cond (eqb n 0) 0 (cond sound n malformed_chain)
+    let sound = nat_lt at n && nat_lt n (record_count s) && is_ok (content l (record_at s n)) in
+    cond (n == 0) 0 (cond sound n malformed_chain)
 
 -- whether the records with these numbers all hold literals
 abbrev pub all_literals : Layout → List ℕ → List ℕ → Bool

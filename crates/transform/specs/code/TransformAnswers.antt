@@ -1,5 +1,5 @@
 -- What each enum and struct of the code says, as the definitions have it. Assumes nothing.
-use Rattle.std.specs.Prelude.{ℕ, suc, ◌+◌, ◌*◌, Bool, cond, ltb, ℤ}
+use Rattle.std.specs.Prelude.{ℕ, suc, ◌+◌, ◌*◌, Bool, cond, nat_lt, ℤ}
 use Rattle.values.specs.Types.{in_type}
 use Rattle.values.specs.declared.datatypes.PrimitiveType.TheVariants.{Long}
 use Rattle.transform.specs.Gregorian.{leap}
@@ -36,4 +36,4 @@ leap_after g = leap (suc (g.n100 * 100 + g.n4 * 4 + g.n1))
 -- ---- truncation
 
 abbrev pub truncated_long : ℕ → ℤ → Truncated
-truncated_long width v = cond (ltb 0 width) (cond (in_type Long (truncated width v)) (truncated-as.Value (truncated width v)) truncated-as.Overflow) truncated-as.Overflow
+truncated_long width v = cond (nat_lt 0 width) (cond (in_type Long (truncated width v)) (truncated-as.Value (truncated width v)) truncated-as.Overflow) truncated-as.Overflow

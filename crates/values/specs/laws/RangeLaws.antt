@@ -1,4 +1,4 @@
--- The ranges of the number types: `inRange` and `in_type` against `SFits`, the range that code knows of a signed number. Assumes nothing.
+-- The ranges of the number types: `in_range` and `in_type` against `FitsSigned`, the range that code knows of a signed number. Assumes nothing.
 use Rattle.std.specs.Prelude.{◌≡◌, ℕ, suc, ◌+◌, ◌^◌, ◌<◌, true, false, ◌↔◌, ℤ, pos, negsuc, neg_ℤ, ◌≤ℤ◌, ◌<ℤ◌, FitsSigned, int_le, int_lt, refl}
 use Rattle.std.proofs.lemmas.Bool.{false≢true}
 use Rattle.std.proofs.Math.IntN.{suc_ℤ, +ℤ_one}

@@ -5,9 +5,8 @@ use Rattle.api.proofs.holds.holds.Goals as goal
 
 pub returns-in-Ok : goal.returns-in-Ok
 returns-in-Ok c =
-    let k = c in
-    let e = k.read_sheet.ensures in
-    value_tested (sheet_told _ _ e.value e.literals_read k.in-Ok.is) _ c.test_value.ensures
+    let e = c.read_sheet.ensures in
+    value_tested (sheet_told _ _ e.value e.literals_read c.in-Ok.is) _ c.test_value.ensures
 
 pub returns-in-Err : goal.returns-in-Err
 returns-in-Err c = no_sheet _ _ _ _ c.read_sheet.ensures.value c.in-Err.is

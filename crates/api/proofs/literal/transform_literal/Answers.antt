@@ -10,23 +10,17 @@ use Rattle.api.proofs.literal.transform_literal.Goals as goal
 
 pub returns-in-Err : goal.returns-in-Err
 returns-in-Err c =
-    let call = c in
-    let else = call in
-    let a = else.args in
+    let a = c.args in
     let v = a.value.now in
     let both = settled_in value_buffer (as_result (transform_value a.column_type a.transform a.width v)) {out = a.out.now} (omega arith)
-    (no_type a.column_type a.transform a.width v (type_told _ (err _) call.from_number.ensures c.in-Err.is)) in record {
+    (no_type a.column_type a.transform a.width v (type_told _ (err _) c.from_number.ensures c.in-Err.is)) in record {
       number = both.0;
       buffer = both.1;
     }
 
 pub returns-in-Err-from_numbers : goal.returns-in-Err-from_numbers
 returns-in-Err-from_numbers c =
-    let next = c in
-    let column = next in
-    let call = column in
-    let else = call in
-    let a = else.args in
+    let a = c.args in
     let v = a.value.now in
     let both = settled_in value_buffer (as_result (transform_value a.column_type a.transform a.width v)) {out = a.out.now} (omega arith)
     (no_transform
@@ -34,21 +28,15 @@ returns-in-Err-from_numbers c =
     a.transform
     a.width
     v
-    (type_told _ (ok _) call.from_number.ensures column.in-Ok.is)
-    (transform_told _ (err _) next.from_numbers.ensures c.in-Err-from_numbers.is)) in record {
+    (type_told _ (ok _) c.from_number.ensures c.in-Ok.is)
+    (transform_told _ (err _) c.from_numbers.ensures c.in-Err-from_numbers.is)) in record {
       number = both.0;
       buffer = both.1;
     }
 
 pub returns : goal.returns
 returns c =
-    let at = c in
-    let told = at in
-    let next = told in
-    let column = next in
-    let call = column in
-    let else = call in
-    let a = else.args in
+    let a = c.args in
     let v = a.value.now in
     let both = settled_in value_buffer (as_result (transform_value a.column_type a.transform a.width v)) {out = a.out.now} (omega arith)
     (value_answered
@@ -56,9 +44,9 @@ returns c =
     a.transform
     a.width
     v
-    (type_told _ (ok _) call.from_number.ensures column.in-Ok.is)
-    (transform_told _ (ok _) next.from_numbers.ensures told.in-Ok-from_numbers.is)
-    at.transform_value.ensures) in record {
+    (type_told _ (ok _) c.from_number.ensures c.in-Ok.is)
+    (transform_told _ (ok _) c.from_numbers.ensures c.in-Ok-from_numbers.is)
+    c.transform_value.ensures) in record {
       number = both.0;
       buffer = both.1;
     }

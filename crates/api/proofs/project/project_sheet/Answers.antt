@@ -16,19 +16,17 @@ told : (c : After-project_leaf-arg-1) → let k = c in
     k.args.sheet.now
     k.read_sheet.new.records
     k.in-Ok.read
-told c = let k = c in let e = k.read_sheet.ensures in sheet_told project_limit _ e.value e.literals_read k.in-Ok.is
+told c = let e = c.read_sheet.ensures in sheet_told project_limit _ e.value e.literals_read c.in-Ok.is
 
 pub returns-in-Err : goal.returns-in-Err
 returns-in-Err c =
-    let read = c in
-    let else = read in
-    let a = else.args in
+    let a = c.args in
     let s = a.sheet.now in
     let both = settled_in
     sheet_buffer
     (project_sheet a.question s) {out = a.out.now}
     (omega arith)
-    (no_sheet a.question s (sheet_refused project_limit s read.read_sheet.ensures.value c.in-Err.is)) in record {
+    (no_sheet a.question s (sheet_refused project_limit s c.read_sheet.ensures.value c.in-Err.is)) in record {
       number = both.0;
       buffer = both.1;
     }
@@ -38,11 +36,8 @@ project_leaf-requires c = ready (told (goal.at.project_leaf-requires c).After-pr
 
 pub returns : goal.returns
 returns c =
-    let leaf = c in
-    let at = leaf in
-    let else = at in
-    let a = else.args in
-    let both = settled_in sheet_buffer (project_sheet a.question a.sheet.now) {out = a.out.now} (omega arith) (sheet_answered (told (goal.at.returns c).After-project_leaf-arg-1) a.question leaf.project_leaf.ensures) in record {
+    let a = c.args in
+    let both = settled_in sheet_buffer (project_sheet a.question a.sheet.now) {out = a.out.now} (omega arith) (sheet_answered (told (goal.at.returns c).After-project_leaf-arg-1) a.question c.project_leaf.ensures) in record {
       number = both.0;
       buffer = both.1;
     }

@@ -11,9 +11,9 @@ pub returns-then-size : goal.returns-then-size
 returns-then-size c = rw (columns_count, eq-eqb _ 0 c.if-size-ne0.false, lt-leb _ _ c.if-size.true)
 
 pub returns-then-are_columns : goal.returns-then-are_columns
-returns-then-are_columns c = let short = c in
-    rw (columns_count, eq-eqb _ 0 short.if-size-ne0.false, le-leb _ _ short.if-size.false, called _ _ _ c.are_columns.ensures c.if-are_columns.true)
+returns-then-are_columns c =
+    rw (columns_count, eq-eqb _ 0 c.if-size-ne0.false, le-leb _ _ c.if-size.false, called _ _ _ c.are_columns.ensures c.if-are_columns.true)
 
 pub returns-else-are_columns : goal.returns-else-are_columns
-returns-else-are_columns c = let short = c in
-    rw (columns_count, eq-eqb _ 0 short.if-size-ne0.false, le-leb _ _ short.if-size.false, called _ _ _ c.are_columns.ensures c.if-are_columns.false)
+returns-else-are_columns c =
+    rw (columns_count, eq-eqb _ 0 c.if-size-ne0.false, le-leb _ _ c.if-size.false, called _ _ _ c.are_columns.ensures c.if-are_columns.false)

@@ -8,8 +8,8 @@ pub is_plain-requires : goal.is_plain-requires
 is_plain-requires c = rw c.head_of.ensures (head_whole _ _ c.requires)
 
 pub returns-then-is_name : goal.returns-then-is_name
-returns-then-is_name c = let t = c in
-    rw (entry_ok, called _ _ _ t.is_name.ensures t.if-is_name.true, ← c.head_of.ensures) c.is_plain.ensures
+returns-then-is_name c =
+    rw (entry_ok, called _ _ _ c.is_name.ensures c.if-is_name.true, ← c.head_of.ensures) c.is_plain.ensures
 
 pub returns-else-is_name : goal.returns-else-is_name
 returns-else-is_name c = rw (entry_ok, called _ _ _ c.is_name.ensures c.if-is_name.false)

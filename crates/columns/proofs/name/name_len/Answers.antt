@@ -7,15 +7,14 @@ pub loop-n-init : goal.loop-n-init
 loop-n-init c = none_counted _ _
 
 pub returns-then-not-is_letter : goal.returns-then-not-is_letter
-returns-then-not-is_letter c = let t = c in
-    let l = t in record {
-      is = all_counted _ _ l.requires l.loop-n.n l.loop-n.invariant t.loop-n-test.true
+returns-then-not-is_letter c =
+    record {
+      is = all_counted _ _ c.requires c.loop-n.n c.loop-n.invariant c.loop-n-test.true
           (sym c.is_letter.ensures ∙ c.if-not-is_letter.true);
-      within = l.loop-n.invariant.within;
+      within = c.loop-n.invariant.within;
     }
 
 pub loop-n-preserved : goal.loop-n-preserved
-loop-n-preserved c = let t = c in
-    let l = t in
-    one_counted _ _ l.requires l.loop-n.n l.loop-n.invariant t.loop-n-test.true
+loop-n-preserved c =
+    one_counted _ _ c.requires c.loop-n.n c.loop-n.invariant c.loop-n-test.true
     (sym c.is_letter.ensures ∙ c.if-not-is_letter.false)

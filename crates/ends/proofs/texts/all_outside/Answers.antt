@@ -9,9 +9,9 @@ use Rattle.ends.proofs.texts.all_outside.Goals.{After-is_outside}
 
 -- what the call says of the literal
 told : (c : After-is_outside)
-    → let l = c in
-    let a = l.args in
-    outside a.low.now a.high.now (content_at a.s.now (get_or a.records.now l.loop-i.i 0)) ≡ c.is_outside.result
+    →
+    let a = c.args in
+    outside a.low.now a.high.now (content_at a.s.now (get_or a.records.now c.loop-i.i 0)) ≡ c.is_outside.result
 told c = rw (← c.record_of.ensures, ← c.content_of.ensures) (sym c.is_outside.ensures)
 
 pub loop-i-preserved : goal.loop-i-preserved

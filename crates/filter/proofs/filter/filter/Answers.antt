@@ -18,13 +18,10 @@ returns-then-count-eq0 c = rw (list_broken _ _ _ _ (sym c.count_columns-count.en
 
 pub answer_text-requires : goal.answer_text-requires
 answer_text-requires c =
-    let k = c in
-    values_ready _ _ _ _ (values_there _ (told (goal.at.answer_text-requires c).After-check_values) c.in-Ok.is).1 k.count_columns-count.ensures
+    values_ready _ _ _ _ (values_there _ (told (goal.at.answer_text-requires c).After-check_values) c.in-Ok.is).1 c.count_columns-count.ensures
 
 pub returns-in-Ok : goal.returns-in-Ok
 returns-in-Ok c =
-    let n = c in
-    let k = n in
-    let a = k.args in
-    let there = (values_there _ (told (goal.at.returns-in-Ok c).After-check_values) n.in-Ok.is).1 in
+    let a = c.args in
+    let there = (values_there _ (told (goal.at.returns-in-Ok c).After-check_values) c.in-Ok.is).1 in
     rw (← values_answered a.asked a.columns.now a.text.now a.values.now there) c.answer_text.ensures

@@ -1,32 +1,19 @@
 -- `test::test_row` meets its contract: numbers are tested as such, and of byte strings a String also for UTF-8. Assumes nothing.
 use mathlib.Core.Bool.{true, false}
-use mathlib.Core.Path.{◌≡◌, refl}
-use Rattle.values.specs.Types.{layout, same_type}
+use mathlib.Core.Path.{◌≡◌}
+use Rattle.values.specs.Types.{layout}
 use Rattle.values.specs.code.TypeResults.{is_bytes}
 use Rattle.values.specs.laws.TypesLaws.{bytes_layout, number_layout}
 use Rattle.values.specs.declared.datatypes.PrimitiveType.{PrimitiveType}
-use Rattle.values.specs.declared.datatypes.PrimitiveType.TheVariants.{Int, Long, Date, Time, Timestamp, Timestamptz, TimestampNs, TimestamptzNs, String, Binary}
-use Rattle.std.proofs.Common.{◌≢◌, sym, ap, ◌∙◌, ℕ, List}
+use Rattle.std.proofs.Common.{sym, ap, ◌∙◌, ℕ, List}
 use Rattle.values.specs.Outcomes.{ok, Row, row}
 use Rattle.expr.specs.Operators.{Operator, by_arity}
 use Rattle.meets.specs.Tested.{held_as}
+use Rattle.values.proofs.TypeArms.{not_string}
 use Rattle.sheet.specs.laws.RecordLaws.{number_type}
 use Rattle.meets.specs.code.HeldAnswers.{held_of, numbers_held}
 use Rattle.meets.proofs.test.test_row.Goals as goal
 use Rattle.meets.proofs.test.test_row.Goals.{Else-not-is_bytes, Then-not-is_bytes}
-
--- a type that is not String
-other : (t : PrimitiveType) → t ≢ String → same_type t String ≡ false
-other Int n = refl
-other Long n = refl
-other Date n = refl
-other Time n = refl
-other Timestamp n = refl
-other Timestamptz n = refl
-other TimestampNs n = refl
-other TimestamptzNs n = refl
-other String n = absurd (n refl)
-other Binary n = refl
 
 -- what `held_of` says of a column of numbers
 as_numbers : (column : PrimitiveType) (a : Operator) (ls : List (List ℕ)) (r : Row (List ℕ)) → is_bytes (layout column) ≡ false
@@ -60,4 +47,4 @@ pub returns : goal.returns
 unfolding held_of
 returns c =
     let column = c.args.x.head.column in
-    rw (bytes_layout column (bytes (goal.at.returns c).Else-not-is_bytes), other column c.in_default.not-String) c.test_bytes.ensures
+    rw (bytes_layout column (bytes (goal.at.returns c).Else-not-is_bytes), not_string column c.in_default.not-String) c.test_bytes.ensures

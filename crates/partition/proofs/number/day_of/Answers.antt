@@ -4,7 +4,7 @@ use Rattle.partition.proofs.NumberArms.{date_fits, days}
 use Rattle.partition.proofs.number.day_of.Goals as goal
 
 pub overflow_cast-result : goal.overflow_cast-result
-overflow_cast-result c = let s = c in rw (back s.ranges.v) (date_fits s.args.column s.args.v (cc) s.requires)
+overflow_cast-result c = rw (back c.ranges.v) (date_fits c.args.column c.args.v (cc) c.requires)
 
 pub returns-in-Day : goal.returns-in-Day
 returns-in-Day c = search days

@@ -15,10 +15,10 @@ pub returns-then-s-next : goal.returns-then-s-next
 returns-then-s-next c = after_broken _ _ _ _ c.u16_at-next.ensures c.if-next-eq0.false (λ a b t. omega arith)
 
 pub returns-then-is_literal : goal.returns-then-is_literal
-returns-then-is_literal c = let past = c in
-    after_literal _ _ _ _ past.u16_at-next.ensures (omega arith) (omega arith) (sym c.is_literal.ensures ∙ c.if-is_literal.true)
+returns-then-is_literal c =
+    after_literal _ _ _ _ c.u16_at-next.ensures (omega arith) (omega arith) (sym c.is_literal.ensures ∙ c.if-is_literal.true)
 
 pub returns : goal.returns
-returns c = let past = c in
-    after_broken _ _ _ _ past.u16_at-next.ensures past.if-next-eq0.false
+returns c =
+    after_broken _ _ _ _ c.u16_at-next.ensures c.if-next-eq0.false
     (λ a b t. clash t (sym c.is_literal.ensures ∙ c.if-is_literal.false))

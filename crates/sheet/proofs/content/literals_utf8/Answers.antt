@@ -11,25 +11,22 @@ use Rattle.sheet.proofs.content.literals_utf8.Goals.{After-is_utf8}
 
 -- what the call says of the literal
 told : (c : After-is_utf8)
-    → let l = c in
-    let a = l.args in
-    utf8 (content_at a.s.now (get_or a.records.now l.loop-i.i 0)) ≡ c.is_utf8.result
+    →
+    let a = c.args in
+    utf8 (content_at a.s.now (get_or a.records.now c.loop-i.i 0)) ≡ c.is_utf8.result
 told c = rw (← c.record_of.ensures, ← c.content_of.ensures) (sym c.is_utf8.ensures)
 
 pub loop-i-preserved : goal.loop-i-preserved
 loop-i-preserved c =
-    let t = c in
-    let l = t in
-    let start = l in
-    let a = start.args in (
+    let a = c.args in (
       omega arith,
       not_here
           (for_no_utf8 _)
           a.records.now
-          l.loop-i.i
+          c.loop-i.i
           a.count
-          l.loop-i.invariant.1
-          t.loop-i-test.true
-          start.requires.room
+          c.loop-i.invariant.1
+          c.loop-i-test.true
+          c.requires.room
           (ap not (told (goal.at.loop-i-preserved c).After-is_utf8 ∙ c.if-not-is_utf8.false)),
     )

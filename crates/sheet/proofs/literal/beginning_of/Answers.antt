@@ -8,7 +8,6 @@ use Rattle.sheet.proofs.literal.beginning_of.Goals as goal
 
 pub returns : goal.returns
 returns c =
-    let start = c in
-    let a = start.args in
+    let a = c.args in
     let size : record_size * a.k + header_size + a.n - (record_size * a.k + header_size) ≡ a.n = omega arith in
-    rw size (sym (in_record a.s.now a.k header_size a.n (omega (arith, start.requires.n_le_content_size))))
+    rw size (sym (in_record a.s.now a.k header_size a.n (omega (arith, c.requires.n_le_content_size))))

@@ -13,9 +13,8 @@ slice_bounds-result-end c =
 
 pub returns : goal.returns
 returns c =
-    let start = c in
-    let a = start.args in
+    let a = c.args in
     let n = c.u16_at-n.result in
     let e : n ≡ _ = c.u16_at-n.ensures ∙ length_here a.s.now a.k in
     let size : record_size * a.k + header_size + n - (record_size * a.k + header_size) ≡ n = omega arith in
-    rw (size, e) (content_here a.s.now a.k start.requires.k_bound)
+    rw (size, e) (content_here a.s.now a.k c.requires.k_bound)

@@ -28,8 +28,7 @@ tested c =
 pub returns-then-not-length_fits : goal.returns-then-not-length_fits
 returns-then-not-length_fits c =
     let u = c.u16_at-n in
-    let start = c in
-    literal_refused _ _ _ u.result start.requires u.ensures (sym c.length_fits.ensures ∙ c.if-not-length_fits.true)
+    literal_refused _ _ _ u.result c.requires u.ensures (sym c.length_fits.ensures ∙ c.if-not-length_fits.true)
 
 pub returns-then-n-eq8 : goal.returns-then-n-eq8
 returns-then-n-eq8 c = tested (goal.at.returns-then-n-eq8 c).Else-not-length_fits (rw c.if-n-eq8.true c.zeros.ensures)

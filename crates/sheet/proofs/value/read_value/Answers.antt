@@ -7,8 +7,7 @@ use Rattle.sheet.proofs.value.read_value.Goals.{After-u16_at-n}
 -- where both words of the header were read
 opened : (c : After-u16_at-n) → Opened c.args.v.now c.u16_at-n.result
 opened c =
-    let first = c in
-    record { size = first.if-v-ne-RECORD_SIZE.false; first = sym first.u16_at.ensures ∙ first.if-u16_at-ne0.false; says = c.u16_at-n.ensures }
+    record { size = c.if-v-ne-RECORD_SIZE.false; first = sym c.u16_at.ensures ∙ c.if-u16_at-ne0.false; says = c.u16_at-n.ensures }
 
 pub returns-then-v-ne-RECORD_SIZE : goal.returns-then-v-ne-RECORD_SIZE
 returns-then-v-ne-RECORD_SIZE c = let a = c.args in wrong_size a.column a.v.now c.if-v-ne-RECORD_SIZE.true
@@ -21,24 +20,20 @@ returns-then-u16_at-ne0 c =
 
 pub returns-then-zeros : goal.returns-then-zeros
 returns-then-zeros c =
-    let n = c in
-    missing_read n.args.column (opened (goal.at.returns-then-zeros c).After-u16_at-n) c.if-n.true
+    missing_read c.args.column (opened (goal.at.returns-then-zeros c).After-u16_at-n) c.if-n.true
     (sym c.zeros.ensures ∙ c.if-zeros.true)
 
 pub returns-then-n : goal.returns-then-n
 returns-then-n c =
-    let n = c in
-    not_missing n.args.column (opened (goal.at.returns-then-n c).After-u16_at-n) c.if-n.true
+    not_missing c.args.column (opened (goal.at.returns-then-n c).After-u16_at-n) c.if-n.true
     (sym c.zeros.ensures ∙ c.if-zeros.false)
 
 pub returns-then-is_literal : goal.returns-then-is_literal
 returns-then-is_literal c =
-    let n = c in
-    present_read n.args.column (opened (goal.at.returns-then-is_literal c).After-u16_at-n) c.if-n.false
+    present_read c.args.column (opened (goal.at.returns-then-is_literal c).After-u16_at-n) c.if-n.false
     (sym c.is_literal.ensures ∙ c.if-is_literal.true)
 
 pub returns-else-is_literal : goal.returns-else-is_literal
 returns-else-is_literal c =
-    let n = c in
-    not_present n.args.column (opened (goal.at.returns-else-is_literal c).After-u16_at-n) c.if-n.false
+    not_present c.args.column (opened (goal.at.returns-else-is_literal c).After-u16_at-n) c.if-n.false
     (sym c.is_literal.ensures ∙ c.if-is_literal.false)

@@ -6,9 +6,6 @@ use Rattle.values.proofs.utf8.ascii_words.Goals as goal
 
 pub loop-i-preserved : goal.loop-i-preserved
 loop-i-preserved c =
-    let word = c in
-    let l = word in
-    let known = l in
-    let s = known.args.s.now in
-    let clear = ap (λ (w : ℕ). bit_and w 0x8080808080808080) (sym word.u64_at.ensures) ∙ c.if-u64_at-ne0.false in
-    (omega arith, ascii_word l.loop-i.i s (λ j. omega (arith, known.shared_slice_known-1.given j)) (omega arith) clear ∙ l.loop-i.invariant.1)
+    let s = c.args.s.now in
+    let clear = ap (λ (w : ℕ). bit_and w 0x8080808080808080) (sym c.u64_at.ensures) ∙ c.if-u64_at-ne0.false in
+    (omega arith, ascii_word c.loop-i.i s (λ j. omega (arith, c.shared_slice_known-1.given j)) (omega arith) clear ∙ c.loop-i.invariant.1)

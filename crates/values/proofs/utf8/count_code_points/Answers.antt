@@ -12,8 +12,7 @@ turn :
     let rest = starts (drop (c.loop-i.i + 1) s) in
     starts (drop c.loop-i.i s) ≡ cond k rest (suc rest)
 turn c e =
-    let l = c in
-    start_one l.args.s.now l.loop-i.i c.loop-i-test.true (sym e ∙ c.continues_code_point.ensures)
+    start_one c.args.s.now c.loop-i.i c.loop-i-test.true (sym e ∙ c.continues_code_point.ensures)
 
 pub returns-then-s-eq0 : goal.returns-then-s-eq0
 returns-then-s-eq0 c = omega (arith, parts_most c.args.s.now)

@@ -6,7 +6,6 @@ use Rattle.values.proofs.utf8.is_utf8.Goals as goal
 
 pub returns : goal.returns
 returns c =
-    let l = c in
-    await_end l.loop-i.q
-    ∙ ap (awaited l.loop-i.q) (sym (drop_of_length-le l.args.s.now c.loop-i-test.false))
-    ∙ l.loop-i.invariant.1
+    await_end c.loop-i.q
+    ∙ ap (awaited c.loop-i.q) (sym (drop_of_length-le c.args.s.now c.loop-i-test.false))
+    ∙ c.loop-i.invariant.1

@@ -5,5 +5,4 @@ use Rattle.values.proofs.words.put_u64.Goals as goal
 
 pub returns : goal.returns
 returns c =
-    let s = c in
-    cc (over_split s.args.at 4 4 s.args.v s.args.d.now (omega arith))
+    cc (over_split c.args.at 4 4 c.args.v c.args.d.now (omega arith))

@@ -4,6 +4,5 @@ use Rattle.transform.proofs.calendar.YearGroups.leap.Goals as goal
 
 pub returns : goal.returns
 returns c =
-    let s = c in
-    let g = s.args.self in
-    leaps g.n100 g.n4 g.n1 s.requires
+    let g = c.args.self in
+    leaps g.n100 g.n4 g.n1 c.requires
