@@ -2,7 +2,7 @@
 use mathlib.Core.Bool.{Bool, true, false}
 use mathlib.Core.Path.{◌≡◌, sym, ◌∙◌}
 use Rattle.values.specs.Types.{layout}
-use Rattle.values.specs.code.TypeResults.{is_bytes}
+use Rattle.values.specs.code.ByteTypes.{is_bytes}
 use Rattle.values.specs.laws.TypesLaws.{bytes_layout, number_layout}
 use Rattle.values.specs.declared.datatypes.PrimitiveType.{PrimitiveType}
 use Rattle.answers.specs.code.Leaves.{NumberColumn, BytesColumn}

@@ -3,4 +3,3 @@ pub mod ColumnKinds
 pub mod OtherTransforms
 pub mod NumberAnswers
 pub mod BytesAnswers
-pub mod ValueAnswers

@@ -1,15 +1,14 @@
 -- The transforms that a match leaves to `_` and `else`: what is known there of the transform. Assumes nothing.
 use Prim.Native.Nat.{ℕ}
 use mathlib.Core.Bool.{true, false}
-use mathlib.Core.List.{List, [], ◌∷◌}
 use mathlib.Core.Path.{◌≡◌, refl}
-use Rattle.std.specs.Prelude.{◌≢◌}
-use types.Run.{OneOf, miss}
-use denote.Enum.Declared.{tag_of}
+use Rattle.std.specs.Prelude.{◌≢◌, Ok}
 use Rattle.values.specs.declared.transform.Transform.{Transform}
 use Rattle.values.specs.declared.transform.Transform.TheVariants.{Identity, Truncate, Year, Month, Day, Hour, Void, Unknown}
-use Rattle.values.specs.contracts.transform.Transform.{the_type}
-use Rattle.answers.specs.code.Leaves.{has_steps, is_identity}
+use Rattle.values.specs.declared.datatypes.PrimitiveType.{PrimitiveType}
+use Rattle.partition.specs.ResultType.{result_type}
+use Rattle.answers.specs.code.Leaves.{has_steps, is_identity, BytesColumn}
+use Rattle.answers.specs.laws.BytesLeafLaws.{by_transform_lem}
 
 -- beside Identity
 pub not_identity : (t : Transform) → t ≢ Identity → is_identity t ≡ false
@@ -22,16 +21,19 @@ not_identity Hour m = refl
 not_identity Void m = refl
 not_identity Unknown m = refl
 
--- beside Void and Unknown
-abbrev stepping_tags : List ℕ
-stepping_tags = 0 ∷ 1 ∷ 2 ∷ 3 ∷ 4 ∷ 5 ∷ []
+-- beside Truncate: of a byte string's only Identity has steps
+pub other_identity : (column to : PrimitiveType) → BytesColumn column → (t : Transform) → result_type t column ≡ Ok to → has_steps t ≡ true
+    → ((width : ℕ) → t ≢ Truncate width) → t ≡ Identity
+other_identity column to bs t result known =
+    by_transform_lem (λ t. ((width : ℕ) → t ≢ Truncate width) → t ≡ Identity) column to bs (λ m. refl) (λ width m. absurd (m width refl)) t result known
 
-pub has_steps_lem : (t : Transform) → OneOf stepping_tags (tag_of the_type t) → has_steps t ≡ true
-has_steps_lem Identity m = refl
-has_steps_lem (Truncate width) m = refl
-has_steps_lem Year m = refl
-has_steps_lem Month m = refl
-has_steps_lem Day m = refl
-has_steps_lem Hour m = refl
-has_steps_lem Void m = absurd (miss stepping_tags 6 tt m)
-has_steps_lem Unknown m = absurd (miss stepping_tags 7 tt m)
+-- beside Void and Unknown
+pub stepping : (t : Transform) → t ≢ Void → t ≢ Unknown → has_steps t ≡ true
+stepping Identity v u = refl
+stepping (Truncate width) v u = refl
+stepping Year v u = refl
+stepping Month v u = refl
+stepping Day v u = refl
+stepping Hour v u = refl
+stepping Void v u = absurd (v refl)
+stepping Unknown v u = absurd (u refl)

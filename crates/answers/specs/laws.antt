@@ -4,8 +4,10 @@ pub mod LeafLaws
 pub mod ReadyLaws
 pub mod StepsLaws
 pub mod OneLiteralLaws
-pub mod CollectedLaws
 pub mod NumberLeafLaws
 pub mod NumberSetLaws
 pub mod BytesLeafLaws
+pub mod BytesSetLaws
 pub mod RowAnswerLaws
+pub mod RowReadLaws
+pub mod LengthLaws

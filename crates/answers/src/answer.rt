@@ -8,37 +8,44 @@ use values::error::ErrorKind;
 // The bytes of a record, as they are counted in an answer.
 pub const RECORD: u16 = RECORD_SIZE as u16;
 
-#[derive(Clone, Copy)]
-pub enum Answer {
-    // So many bytes of the buffer are the result; 16 bits hold the longest, and keep an answer at four bytes.
-    Written(u16),
-    NoPredicate,
+// Why a routine that writes a result refuses.
+#[derive(Clone, Copy, PartialEq, Eq)]
+pub enum Refusal {
     BufferTooSmall,
-    Err(ErrorKind),
+    Kind(ErrorKind),
 }
 
-impl Answer {
-    // Document 01's number of the answer.
-    pub fn number(self) -> u32
-        ensures { result ≡ answer_number self }
-    {
-        match self {
-            Answer::Written(_) => 0,
-            Answer::NoPredicate => 1,
-            Answer::BufferTooSmall => 2,
-            Answer::Err(e) => e.number(),
-        }
-    }
+impl From<ErrorKind> for Refusal {
+    ghost use Rattle.answers.specs.declared.answer.Refusal.TheVariants.{Kind};
 
-    // How many bytes were written.
-    pub fn count(self) -> usize
-        ensures { result ≡ answer_count self }
-    {
-        match self {
-            Answer::Written(n) => n as usize,
-            Answer::NoPredicate => 0,
-            Answer::BufferTooSmall => 0,
-            Answer::Err(_) => 0,
-        }
+    ghost from_gives = { λ e r. r ≡ Kind e };
+
+    fn from(e: ErrorKind) -> Refusal {
+        Refusal::Kind(e)
+    }
+}
+
+// How many bytes of the buffer are the result; none where there is no predicate; or the refusal. 16 bits hold the longest, and keep an answer small.
+pub type Answer = Result<Option<u16>, Refusal>;
+
+// Document 01's number of the answer.
+pub fn answer_number(answer: Answer) -> u32
+    ensures { result ≡ answer_number answer }
+{
+    match answer {
+        Ok(Some(_)) => 0,
+        Ok(None) => 1,
+        Err(Refusal::BufferTooSmall) => 2,
+        Err(Refusal::Kind(e)) => u32::from(e),
+    }
+}
+
+// How many bytes were written.
+pub fn answer_count(answer: Answer) -> usize
+    ensures { result ≡ answer_count answer }
+{
+    match answer {
+        Ok(Some(n)) => n as usize,
+        _ => 0,
     }
 }

@@ -1,83 +1,79 @@
 // A leaf over a String or Binary column.
-ghost use Rattle.std.specs.Prelude.{true, ◌≡◌, ◌≤◌, length};
+ghost use Rattle.std.specs.Prelude.{true, ◌≡◌, ◌≤◌, length, Ok};
 ghost use Rattle.values.specs.Types.{content_size};
 ghost use Rattle.expr.specs.Operators.{by_arity};
 ghost use Rattle.expr.specs.code.OperatorAnswers.{takes_one, takes_many};
 ghost use Rattle.strings.specs.code.Prefixes.{bytes_projected, NoLonger, OneLiteral};
 ghost use Rattle.answers.specs.code.Settled.{Settled};
-ghost use Rattle.answers.specs.code.Leaves.{byte_steps, bytes_leaf_at, one_bytes_written, keeps, BytesColumn, ReadyLeaf};
+ghost use Rattle.answers.specs.code.Leaves.{byte_steps, bytes_leaf_of, one_bytes_written, has_steps, keeps, BytesColumn};
 ghost use Rattle.write.specs.Written.{sheet_buffer};
 
-use crate::answer::{Answer, RECORD};
+use crate::answer::RECORD;
 use crate::leaf::Leaf;
-use expr::operator::HOLDS_LIMIT;
-use sets::number::Collected;
+use expr::operator::{HOLDS_LIMIT, PredicateOperator};
 use sets::string::project_set_expr;
-use sheet::literal::{content_of, record_of};
+use sheet::parts::ContentParts;
 use sheet::records::PROJECT_RECORDS;
-use strings::steps::{BytesProjection, project_bytes};
+use strings::steps::project_bytes;
 use values::datatypes::PrimitiveType;
+use values::error::ErrorKind;
 use values::transform::Transform;
-use write::answer::{put_one_string, put_strings};
+use write::answer::{put_parts, put_strings};
 
-// The projection of the literal l, written.
-fn put_projection(to: PrimitiveType, p: BytesProjection, l: &[u8], out: &mut [u8]) -> Answer
-    requires no_longer { NoLonger (length l.now) p }
+// The projection of the one literal, written.
+fn put_projection(
+    to: PrimitiveType,
+    p: Option<(PredicateOperator, &[u8])>,
+    out: &mut [u8],
+) -> Option<u16>
+    requires no_longer { NoLonger content_size p }
     requires one_literal { OneLiteral p }
-    requires l_len_bound { length l.now ≤ content_size }
     requires sheet_buffer_in_bounds { sheet_buffer ≤ length out.old }
-    ensures { Settled (one_bytes_written to (bytes_projected l.now p)) out.old out.new result }
+    ensures { Settled (one_bytes_written to (bytes_projected p.entry)) out.old out.new (Ok result) }
 {
-    match p {
-        BytesProjection::None => Answer::NoPredicate,
-        BytesProjection::Prefix(operator, n) => {
-            put_one_string(out, operator, to, &l[..n]);
-            Answer::Written(RECORD * 2)
-        }
-    }
+    let (operator, part) = p?;
+    put_strings(out, operator, to, &[part]);
+    Some(RECORD * 2)
 }
 
 // A leaf with one literal. What is not Truncate is Identity here, and gives the leaf itself.
-pub fn project_one(x: Leaf, s: &[u8], records: &[u16], out: &mut [u8]) -> Answer
-    requires bytes_column { BytesColumn x.column }
-    requires ready_leaf { ReadyLeaf x s.now records.now out.old }
-    requires operator_value { takes_one (by_arity x.operator) ≡ true }
-    ensures { Settled (byte_steps x (bytes_leaf_at x s.now records.now)) out.old out.new result }
+pub fn project_one(x: Leaf, out: &mut [u8]) -> Result<Option<u16>, ErrorKind>
+    requires bytes_column { BytesColumn x.sheet.literals.column }
+    requires known { has_steps x.sheet.transform ≡ true }
+    requires operator_value { takes_one (by_arity x.sheet.operator) ≡ true }
+    requires sheet_buffer_in_bounds { sheet_buffer ≤ length out.old }
+    ensures { Settled (byte_steps x.entry (bytes_leaf_of x.entry)) out.old out.new result }
 {
-    let question = x.question;
-    let operator = x.operator;
-    let column = x.column;
-    let transform = x.transform;
-    let to = x.to;
-    let l = content_of(s, record_of(records, 0));
-    match transform {
+    let operator = x.sheet.operator;
+    let literals = x.sheet.literals;
+    let l = literals.content(0);
+    let p = match x.sheet.transform {
         Transform::Truncate(width) => {
-            let p = project_bytes(question, column, width, operator, l);
-            put_projection(to, p, l, out)
+            project_bytes(x.question, literals.column, width, operator, l)
         }
-        _ => put_projection(to, BytesProjection::Prefix(operator, l.len()), l, out),
-    }
+        _ => Some((operator, l)),
+    };
+    Ok(put_projection(x.to, p, out))
 }
 
 // A leaf with a set that has a projection.
-pub fn project_set(x: Leaf, s: &[u8], records: &[u16], out: &mut [u8]) -> Answer
-    requires bytes_column { BytesColumn x.column }
-    requires ready_leaf { ReadyLeaf x s.now records.now out.old }
-    requires operator_value { takes_many (by_arity x.operator) ≡ true }
-    requires operator_value_2 { keeps x.transform x.question (by_arity x.operator) ≡ true }
-    ensures { Settled (byte_steps x (bytes_leaf_at x s.now records.now)) out.old out.new result }
+pub fn project_set(x: Leaf, out: &mut [u8]) -> Result<Option<u16>, ErrorKind>
+    requires bytes_column { BytesColumn x.sheet.literals.column }
+    requires known { has_steps x.sheet.transform ≡ true }
+    requires operator_value { takes_many (by_arity x.sheet.operator) ≡ true }
+    requires operator_value_2 { keeps x.sheet.transform x.question (by_arity x.sheet.operator) ≡ true }
+    requires sheet_buffer_in_bounds { sheet_buffer ≤ length out.old }
+    ensures { Settled (byte_steps x.entry (bytes_leaf_of x.entry)) out.old out.new result }
 {
-    let operator = x.operator;
-    let column = x.column;
-    let transform = x.transform;
-    let to = x.to;
+    let literals = x.sheet.literals;
     let mut sizes = [0; PROJECT_RECORDS];
     let mut set = [0; HOLDS_LIMIT];
-    match project_set_expr(s, records, x.count, column, transform, &mut sizes, &mut set) {
-        Collected::Err(e) => Answer::Err(e),
-        Collected::Count(n) => {
-            put_strings(out, operator, to, s, &sizes, &set, n);
-            Answer::Written(RECORD * (n + 1) as u16)
-        }
-    }
+    let n = project_set_expr(literals, x.sheet.transform, &mut sizes, &mut set)?;
+    let parts = ContentParts {
+        sheet: literals.sheet,
+        sizes: &sizes,
+        records: &set[..n],
+    };
+    put_parts(out, x.sheet.operator, x.to, parts);
+    Ok(Some(RECORD * (n + 1) as u16))
 }

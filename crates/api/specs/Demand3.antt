@@ -1,7 +1,6 @@
 -- Demand 3, "The number of weighings lost is nought", over the bytes of the routines: sheets s, value records v and p, answer sheets q. Assumes nothing.
-use Rattle.std.specs.Prelude.{ℕ, ◌≤◌, true, List, ◌⊎◌, ◌↔◌, ◌≡◌, ℤ, pos, ◌<ℤ◌}
+use Rattle.std.specs.Prelude.{ℕ, ◌≤◌, true, List, ◌⊎◌, ◌↔◌, ◌≡◌, ℤ, pos, ◌<ℤ◌, Ok}
 use Rattle.std.proofs.Math.IntN.{suc_ℤ}
-use Rattle.values.specs.Outcomes.{ok}
 use Rattle.values.specs.Words.{AllBytes, signed, word}
 use Rattle.projection.specs.Lifting.{lifted}
 use Rattle.projection.specs.Steps.{some}
@@ -24,17 +23,17 @@ width_in s = word 8 4 s
 
 -- 01: "A predicate is returned where a projection's answer is 0: it is the answer sheet"
 abbrev pub Returns : Question → List ℕ → List ℕ → Type 0
-Returns question s q = project_sheet question s ≡ ok (some q)
+Returns question s q = project_sheet question s ≡ Ok (some q)
 
 -- 01: "A row meets a leaf, and a partition value meets a predicate (the predicate accepts it), as the holds-test's rules say"
 abbrev pub Accepts : List ℕ → List ℕ → Type 0
-Accepts s v = holds_test s v ≡ ok true
+Accepts s v = holds_test s v ≡ Ok true
 
 module _ (s : List ℕ) where
   -- 01: "It has a partition value if none of the answers 3 to 8 applies when it is transformed under the head's type, transform and width. The partition value
   -- is then what the section on transforms gives .. and the record is a row of it": v is a row of p
   abbrev pub RowOf : List ℕ → List ℕ → Type 0
-  RowOf p v = transform_value (type_in s) (transform_in s) (width_in s) v ≡ ok p
+  RowOf p v = transform_value (type_in s) (transform_in s) (width_in s) v ≡ Ok p
 
   -- rows that are there, or that are asked for, are bytes; what is said below of every row is said of every list of numbers
   abbrev pub SomeRow : List ℕ → Type 0
@@ -70,7 +69,7 @@ HoldsNumber p z = (length_in p ≡ 4) × (signed 4 (word header_size 4 p) ≡ z)
 
 -- "for transforms that document 01 lifts"
 abbrev pub Lifts : List ℕ → Type 0
-Lifts s = (h : Head) × (head (type_in s) (transform_in s) (width_in s) ≡ ok h) × (lifted h.column h.transform ≡ true)
+Lifts s = (h : Head) × (head (type_in s) (transform_in s) (width_in s) ≡ Ok h) × (lifted h.column h.transform ≡ true)
 
 -- "when it is one above a negative partition value of which some row meets the leaf"; 01: "one above is the number plus 1"
 abbrev pub OneAbove : List ℕ → List ℕ → Type 0

@@ -1,5 +1,5 @@
 -- The routines over bytes: what a sheet, and a value to be transformed, are answered, and the rules of the lent buffer. Assumes nothing.
-use Rattle.std.specs.Prelude.{ℕ, cond, List, nat_lt, length}
+use Rattle.std.specs.Prelude.{ℕ, cond, List, nat_lt, length, Err}
 use Rattle.values.specs.Outcomes.{Res, ◌>>=◌}
 use Rattle.values.specs.Types.{layout}
 use Rattle.expr.specs.Operators.{project_limit}
@@ -7,9 +7,8 @@ use Rattle.projection.specs.Steps.{Projected}
 use Rattle.projection.specs.declared.question.Question.{Question}
 use Rattle.sheet.specs.Records.{record_size, value}
 use Rattle.sheet.specs.Sheets.{head, sheet}
-use Rattle.answers.specs.Answers.{projected_leaf, transformed_row, as_result, answer_of, left_of}
-use Rattle.answers.specs.declared.answer.Answer.{Answer}
-use Rattle.answers.specs.declared.answer.Answer.TheVariants.{BufferTooSmall}
+use Rattle.answers.specs.Answers.{projected_leaf, transformed_row, as_result, answer_of, left_of, Answer, refused_as}
+use Rattle.answers.specs.declared.answer.Refusal.TheVariants.{BufferTooSmall}
 use Rattle.write.specs.Written.{sheet_buffer}
 
 -- ---- what is answered
@@ -33,7 +32,7 @@ value_buffer = record_size
 
 -- 2 comes before every other check
 abbrev pub answered : ℕ → List ℕ → Res (Projected (List ℕ)) → Answer
-answered size out r = cond (nat_lt (length out) size) BufferTooSmall (answer_of r)
+answered size out r = cond (nat_lt (length out) size) (Err BufferTooSmall) (refused_as (answer_of r))
 
 abbrev pub left_in : ℕ → List ℕ → Res (Projected (List ℕ)) → List ℕ
 left_in size out r = cond (nat_lt (length out) size) out (left_of out r)

@@ -1,17 +1,35 @@
 // The projections of a sheet: the Rust's `Transform::project` and `strict_project` (src/spec/transform.rs), over bytes, and 02's strict one for older files.
-ghost use Rattle.std.specs.Prelude.{◌≡◌};
+ghost use Rattle.std.specs.Prelude.{◌≡◌, ◌≤◌, length};
 ghost use Rattle.projection.specs.declared.question.Question.TheVariants.{Inclusive, Strict, Older};
-ghost use Rattle.api.specs.Routines.{project_answer, project_leaves};
+ghost use Rattle.write.specs.Written.{sheet_buffer};
+ghost use Rattle.answers.specs.code.Settled.{Settled};
+ghost use Rattle.api.specs.Routines.{project_sheet, project_answer, project_leaves};
 
-use answers::answer::Answer;
+use answers::answer::{Answer, Refusal};
 use answers::project::project_leaf;
 use expr::operator::{HOLDS_LIMIT, PROJECT_LIMIT};
 use projection::question::Question;
+use sheet::reader::read_sheet;
 use sheet::records::RECORD_SIZE;
-use sheet::sheet::{SheetResult, read_sheet};
+use values::error::ErrorKind;
 
 // The bytes of the longest answer sheet.
 pub const SHEET_BUFFER: usize = RECORD_SIZE * (HOLDS_LIMIT + 1);
+
+// 3, and then what the leaf is answered, where the buffer has room for any answer sheet.
+fn project_checked(
+    question: Question,
+    sheet: &[u8],
+    out: &mut [u8],
+) -> Result<Option<u16>, ErrorKind>
+    requires { sheet_buffer ≤ length out.old }
+    ensures { Settled (project_sheet question sheet.now) out.old out.new result }
+{
+    let mut records = [0; HOLDS_LIMIT];
+    // `&*sheet` lets the compiler hand on address and length in registers.
+    let x = read_sheet(&*sheet, PROJECT_LIMIT, &mut records)?;
+    project_leaf(question, x, out)
+}
 
 // The answer sheet of a sheet, written to the start of `out`: 2, then 3, then what the leaf is answered.
 fn project_sheet(question: Question, sheet: &[u8], out: &mut [u8]) -> Answer
@@ -19,15 +37,10 @@ fn project_sheet(question: Question, sheet: &[u8], out: &mut [u8]) -> Answer
     ensures buffer { out.new ≡ project_leaves question sheet.now out.old }
 {
     if out.len() < SHEET_BUFFER {
-        return Answer::BufferTooSmall;
+        return Err(Refusal::BufferTooSmall);
     }
-    let mut records = [0; HOLDS_LIMIT];
-    // `&*sheet` lets the compiler hand on address and length in registers.
-    let read = match read_sheet(&*sheet, PROJECT_LIMIT, &mut records) {
-        SheetResult::Err(e) => return Answer::Err(e),
-        SheetResult::Ok(read) => read,
-    };
-    project_leaf(question, read.head, read.count, &*sheet, &records, out)
+    let written = project_checked(question, sheet, out)?;
+    Ok(written)
 }
 
 // Which partition values may have a row that meets the sheet's leaf.

@@ -1,3 +1,4 @@
 -- Lemmas that several proofs share.
-pub mod PartAnswerArms
-pub mod NumberAnswerArms
+pub mod TextTypes
+pub mod PartAnswers
+pub mod Numbers

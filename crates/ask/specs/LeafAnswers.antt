@@ -1,6 +1,6 @@
 -- What one leaf of a filter is answered, by a row or by partition values. Assumes nothing.
-use Rattle.std.specs.Prelude.{ℕ, zero, suc, Bool, true, false, List, [], ◌∷◌}
-use Rattle.values.specs.Outcomes.{Res, ok, ◌>>=◌, Row, missing}
+use Rattle.std.specs.Prelude.{ℕ, zero, suc, Bool, true, false, List, [], ◌∷◌, Ok}
+use Rattle.values.specs.Outcomes.{Res, ◌>>=◌, Row, missing}
 use Rattle.values.specs.declared.datatypes.PrimitiveType.{PrimitiveType}
 use Rattle.values.specs.declared.transform.Transform.{Transform}
 use Rattle.partition.specs.ResultType.{result_type}
@@ -51,7 +51,7 @@ by_part k column transform question leaf p = do
   l ← each_literal k.read leaf
   to ← result_type transform column
   q ← k.project question l
-  ok (accepted k.parts question q (map_row k.read_part p))
+  Ok (accepted k.parts question q (map_row k.read_part p))
 
 unfoldable pub part_answer : Question → List Cell → Leaf → Res Bool
 part_answer question cells l =

@@ -5,7 +5,7 @@ ghost use Rattle.ask.specs.LeafAnswers.{without_predicate};
 use projection::question::Question;
 
 // Of a row, or of a partition value under a question.
-#[derive(Clone, Copy)]
+#[derive(Clone, Copy, PartialEq, Eq)]
 pub enum Asked {
     Row,
     Part(Question),
@@ -15,9 +15,5 @@ pub enum Asked {
 pub fn without_predicate(question: Question) -> bool
     ensures { result ≡ without_predicate question }
 {
-    match question {
-        Question::Inclusive => true,
-        Question::Strict => false,
-        Question::Older => false,
-    }
+    question == Question::Inclusive
 }

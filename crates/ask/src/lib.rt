@@ -2,5 +2,6 @@
 #![tactic(auto)]
 
 pub mod asked;
+pub mod leaf;
 pub mod number;
 pub mod text;

@@ -1,137 +1,110 @@
 // A leaf with a number, over a whole-number or time column.
-ghost use Rattle.std.specs.Prelude.{true, [], ◌∷◌, ◌≡◌, length};
+ghost use Rattle.std.specs.Prelude.{true, [], ◌∷◌, ◌≡◌, option_copied, Ok};
 ghost use Rattle.std.proofs.Math.IntN.{suc_ℤ};
-ghost use Rattle.values.specs.Outcomes.{ok, row};
-ghost use Rattle.values.specs.Types.{layout, fits, in_type};
-ghost use Rattle.values.specs.declared.datatypes.PrimitiveType.TheVariants.{Long};
-ghost use Rattle.partition.specs.ResultType.{result_type};
 ghost use Rattle.expr.specs.Holds.{number_tests, meets};
 ghost use Rattle.expr.specs.Operators.{is_in, by_arity};
 ghost use Rattle.expr.specs.Predicates.{set};
-ghost use Rattle.expr.specs.code.OperatorAnswers.{takes_one, takes_many};
-ghost use Rattle.numbers.specs.code.Boundaries.{number_projected};
-ghost use Rattle.answers.specs.code.Leaves.{NumbersIn};
-ghost use Rattle.meets.specs.Tested.{held_as};
-ghost use Rattle.columns.specs.Cells.{type_or};
+ghost use Rattle.expr.specs.code.OperatorAnswers.{takes_many};
+ghost use Rattle.numbers.specs.code.Boundaries.{number_projected, OneIn};
+ghost use Rattle.sheet.specs.laws.RecordLaws.{FitsRow};
 ghost use Rattle.ask.specs.declared.asked.Asked.TheVariants.{Part};
 ghost use Rattle.ask.specs.code.Askings.{type_asked, number_row, number_answer, NumberSized, meets_row, meets_two, step_held};
 
 use crate::asked::{Asked, without_predicate};
+use crate::leaf::NumberLeaf;
 use expr::operator::PredicateOperator;
 use expr::test::{missing_holds, number_meets};
-use meets::held::Held;
-use meets::test::answered;
-use numbers::steps::{NumberProjection, project_number};
+use numbers::steps::{NumberTest, project_number};
 use partition::result::result_type;
 use projection::question::Question;
 use sheet::content::number_in;
-use values::datatypes::{PrimitiveType, TypeResult};
 use values::error::ErrorKind;
 use values::transform::Transform;
 
-// Whether a number, which may be missing, meets an operator with a literal.
-fn test_one(operator: PredicateOperator, l: i64, present: bool, content: &[u8]) -> Held
-    requires { NumberSized present content.now }
-    ensures { result ≡ held_as (ok (meets_row number_tests (by_arity operator) l (number_row (row present content.now)))) }
+// The number that a value is, where it is present.
+fn number_of(value: Option<&[u8]>) -> Option<i64>
+    requires { NumberSized (option_copied value) }
+    ensures { result ≡ number_row (option_copied value.entry) }
 {
-    if present {
-        answered(number_meets(operator, number_in(content), l))
-    } else {
-        answered(missing_holds(operator))
+    value.map(number_in)
+}
+
+// Whether a number, which may be missing, meets an operator with a literal.
+fn test_one(operator: PredicateOperator, l: i64, number: Option<i64>) -> bool
+    ensures { result ≡ meets_row number_tests (by_arity operator) l number }
+{
+    match number {
+        Some(v) => number_meets(operator, v, l),
+        None => missing_holds(operator),
     }
 }
 
 // Whether a number is t or the one above it.
 fn is_either(v: i64, t: i64) -> bool
-    requires { in_type Long (suc_ℤ t) ≡ true }
     ensures { result ≡ meets number_tests (set is_in (t ∷ suc_ℤ t ∷ [])) v }
 {
-    if number_meets(PredicateOperator::Eq, v, t) {
-        return true;
-    }
-    number_meets(PredicateOperator::Eq, v, t + 1)
+    v == t || t.checked_add(1) == Some(v)
 }
 
 // Whether a number, which may be missing, meets In or NotIn of t and the one above it.
-fn test_two(operator: PredicateOperator, t: i64, present: bool, content: &[u8]) -> Held
-    requires number_sized { NumberSized present content.now }
-    requires t_value { in_type Long (suc_ℤ t) ≡ true }
-    requires operator_value { takes_many (by_arity operator) ≡ true }
-    ensures { result ≡ held_as (ok (meets_two (by_arity operator) t (number_row (row present content.now)))) }
+#[tactic(auto, using(crate::proofs::Numbers::two_missing, crate::proofs::Numbers::other_set))]
+fn test_two(operator: PredicateOperator, t: i64, number: Option<i64>) -> bool
+    requires { takes_many (by_arity operator) ≡ true }
+    ensures { result ≡ meets_two (by_arity operator) t number }
 {
-    if !present {
-        return answered(missing_holds(operator));
-    }
-    let found = is_either(number_in(content), t);
-    if let PredicateOperator::In = operator {
-        answered(found)
-    } else {
-        answered(!found)
+    let Some(v) = number else {
+        return missing_holds(operator);
+    };
+    match operator {
+        PredicateOperator::In => is_either(v, t),
+        _ => !is_either(v, t),
     }
 }
 
 // A partition value, which may be missing, against what the leaf came to.
-fn test_projected(question: Question, p: NumberProjection, present: bool, content: &[u8]) -> Held
-    requires numbers_in { NumbersIn Long p }
-    requires number_sized { NumberSized present content.now }
-    ensures { result ≡ held_as (step_held number_tests question (number_projected p) (number_row (row present content.now))) }
+fn test_projected(question: Question, p: Option<NumberTest>, number: Option<i64>) -> bool
+    requires { OneIn (Ok p) }
+    ensures { Ok result ≡ step_held number_tests question (number_projected (Ok p)) number }
 {
     match p {
-        NumberProjection::None => answered(without_predicate(question)),
-        NumberProjection::Err(e) => Held::Err(e),
-        NumberProjection::One(operator, t) => test_one(operator, t, present, content),
-        NumberProjection::Two(operator, t) => test_two(operator, t, present, content),
+        None => without_predicate(question),
+        Some(NumberTest::One(operator, t)) => test_one(operator, t, number),
+        Some(NumberTest::Two(operator, t)) => test_two(operator, t, number),
     }
 }
 
 // What a partition value is answered: 5, then Unknown's 7, then the steps; under Identity the leaf itself is tested.
-fn ask_part(
-    question: Question,
-    column: PrimitiveType,
-    transform: Transform,
-    operator: PredicateOperator,
-    l: i64,
-    present: bool,
-    content: &[u8],
-) -> Held
-    requires operator_value { takes_one (by_arity operator) ≡ true }
-    requires l_value { in_type column l ≡ true }
-    requires content_value { present ≡ true → fits (layout (type_or column (result_type transform column))) (length content.now) ≡ true }
-    ensures { result ≡ held_as (number_answer (Part question) column transform (by_arity operator) l (row present content.now)) }
+#[tactic(auto, using(crate::proofs::PartAnswers::number_parts, crate::proofs::Numbers::part_sized, crate::proofs::Numbers::seen))]
+fn ask_part(question: Question, leaf: NumberLeaf, value: Option<&[u8]>) -> Result<bool, ErrorKind>
+    requires { FitsRow (type_asked (Part question) leaf.column leaf.transform) (option_copied value) }
+    ensures { let x = leaf in result ≡ number_answer (Part question) x.column x.transform (by_arity x.operator) x.literal (option_copied value.entry) }
 {
-    match result_type(transform, column) {
-        TypeResult::Err(e) => return Held::Err(e),
-        TypeResult::Ok(_) => {}
-    }
+    let NumberLeaf {
+        column,
+        transform,
+        operator,
+        literal,
+    } = leaf;
+    result_type(transform, column)?;
     match transform {
-        Transform::Unknown => Held::Err(ErrorKind::FeatureUnsupported),
-        Transform::Void => answered(without_predicate(question)),
-        Transform::Identity => test_one(operator, l, present, content),
+        Transform::Unknown => Err(ErrorKind::FeatureUnsupported),
+        Transform::Void => Ok(without_predicate(question)),
+        Transform::Identity => Ok(test_one(operator, literal, number_of(value))),
         _ => {
-            let p = project_number(question, column, transform, operator, l);
-            test_projected(question, p, present, content)
+            let p = project_number(question, column, transform, operator, literal)?;
+            Ok(test_projected(question, p, number_of(value)))
         }
     }
 }
 
-// What a leaf with the number l is answered by a value, whose content counts where it is present: a row by the holds-test, a partition value as above.
-pub fn ask_number(
-    asked: Asked,
-    column: PrimitiveType,
-    transform: Transform,
-    operator: PredicateOperator,
-    l: i64,
-    present: bool,
-    content: &[u8],
-) -> Held
-    requires operator_value { takes_one (by_arity operator) ≡ true }
-    requires l_value { in_type column l ≡ true }
-    requires content_value { present ≡ true → fits (layout (type_asked asked column transform)) (length content.now) ≡ true }
-    ensures { result ≡ held_as (number_answer asked column transform (by_arity operator) l (row present content.now)) }
+// What a leaf with a number is answered by a value: a row by the holds-test, a partition value as above.
+#[tactic(auto, using(crate::specs::laws::PartAnswerLaws::number_of_row, crate::proofs::Numbers::row_sized, crate::proofs::Numbers::seen))]
+pub fn ask_number(asked: Asked, leaf: NumberLeaf, value: Option<&[u8]>) -> Result<bool, ErrorKind>
+    requires { FitsRow (type_asked asked leaf.column leaf.transform) (option_copied value) }
+    ensures { let x = leaf in result ≡ number_answer asked x.column x.transform (by_arity x.operator) x.literal (option_copied value.entry) }
 {
-    let question = match asked {
-        Asked::Row => return test_one(operator, l, present, content),
-        Asked::Part(question) => question,
-    };
-    ask_part(question, column, transform, operator, l, present, content)
+    match asked {
+        Asked::Row => Ok(test_one(leaf.operator, leaf.literal, number_of(value))),
+        Asked::Part(question) => ask_part(question, leaf, value),
+    }
 }

@@ -5,7 +5,7 @@ ghost use Rattle.std.specs.Prelude.{cond, ◌≡◌};
 ghost use Rattle.transform.specs.Calendar.{in_calendar, civil_year, civil_month};
 ghost use Rattle.transform.specs.YearGroups.{count400, count100, count4, count1, day_in_year};
 
-use transform::calendar::{Dated, Days, Grouped};
+use transform::calendar::Days;
 
 // 1 for a day of the calendar, with its groups of years and its place in its year set; else 0, with nothing set.
 #[unsafe(no_mangle)]
@@ -24,12 +24,10 @@ pub extern "C" fn calendar_year_groups(
     ensures of1 { n1.new ≡ cond (in_calendar day) (count1 day) n1.old }
     ensures left { place.new ≡ cond (in_calendar day) (day_in_year day) place.old }
 {
-    let Grouped::Into(groups, left) = Days(day).year_groups() else {
+    let Some((groups, left)) = Days(day).year_groups() else {
         return 0;
     };
-    // a signed number is stored from a local of its own
-    let of_400 = groups.n400;
-    *n400 = of_400;
+    *n400 = groups.n400;
     *n100 = groups.n100;
     *n4 = groups.n4;
     *n1 = groups.n1;
@@ -44,12 +42,10 @@ pub extern "C" fn calendar_civil(day: i32, year: &mut i32, month0: &mut u32) -> 
     ensures years { year.new ≡ cond (in_calendar day) (civil_year day) year.old }
     ensures months { month0.new ≡ cond (in_calendar day) (civil_month day) month0.old }
 {
-    let Dated::On(date) = Days(day).civil() else {
+    let Some(date) = Days(day).civil() else {
         return 0;
     };
-    // signed, as above
-    let civil_year = date.year;
-    *year = civil_year;
+    *year = date.year;
     *month0 = date.month0;
     1
 }

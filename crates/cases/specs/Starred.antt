@@ -1,8 +1,8 @@
 -- The starred cases of document 01, "Moments and lots on either side": what the routines answer is what the document says, by one statement.
 -- Assumes nothing.
-use Rattle.std.specs.Prelude.{◌≡◌, ℕ, List, [], ◌∷◌, map, ℤ, pos, negsuc, refl}
+use Rattle.std.specs.Prelude.{◌≡◌, ℕ, List, [], ◌∷◌, map, ℤ, pos, negsuc, refl, Ok, Err}
 use Rattle.values.specs.Order.{compare_numbers, compare_bytes}
-use Rattle.values.specs.Outcomes.{Res, ok, err}
+use Rattle.values.specs.Outcomes.{Res}
 use Rattle.values.specs.Transforms.{transform_of}
 use Rattle.values.specs.Types.{in_type}
 use Rattle.values.specs.Utf8.{is_code_point, code_points, utf8}
@@ -44,10 +44,10 @@ abbrev projects : Question → ℕ → ℕ → ℕ → ℕ → List (List ℕ) �
 projects question operator type transform width literals = project_sheet question (sheet_of operator type transform width literals)
 
 abbrev gives : List ℕ → Answered
-gives v = ok (some (value_of v))
+gives v = Ok (some (value_of v))
 
 abbrev predicate : PredicateOperator → PrimitiveType → List (List ℕ) → Answered
-predicate operator type literals = ok (some (answer_bytes operator type literals))
+predicate operator type literals = Ok (some (answer_bytes operator type literals))
 
 abbrev int : ℤ → List ℕ
 int z = signed_bytes 4 z
@@ -91,7 +91,7 @@ starred =
     -- "Truncate 2, StartsWith "é" (c3 a9 hexadecimal), inclusive: StartsWith "é""
     ∷ (projects Inclusive 207 9 1 2 (é ∷ []) is predicate StartsWith String (é ∷ []))
     -- "Truncate 10, Int < −2147483640: inclusive 8, strict < −2147483640"
-    ∷ (projects Inclusive 201 1 1 10 (int (negsuc 2147483639) ∷ []) is err Overflow)
+    ∷ (projects Inclusive 201 1 1 10 (int (negsuc 2147483639) ∷ []) is Err Overflow)
     ∷ (projects Strict 201 1 1 10 (int (negsuc 2147483639) ∷ []) is predicate LessThan Int (int (negsuc 2147483639) ∷ []))
     ∷ []
 

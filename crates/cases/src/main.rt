@@ -2,10 +2,7 @@
 // and wrong.
 #![tactic(auto)]
 
-ghost use Rattle.std.specs.Prelude.{OnErr, ◌≡◌, length};
-ghost use Rattle.std.specs.Io.{ReadsAtMost};
-
-use cases_judge::judge::{Question, is_right};
+use cases_judge::judge::{Case, Routine};
 use input::read_full;
 use std::io;
 use std::io::Read;
@@ -19,10 +16,8 @@ const HEADER_SIZE: usize = 20;
 // Room for the longest input or result whose length a header can say.
 const PART_SIZE: usize = 65536;
 
-// The number in a header of what is no case but a text to print, before the counts of the cases since the last one.
-const TEXT: u8 = 4;
-
-// What was read: a case, and whether it came out as the papers say; a text, which was printed; or the end of the input.
+// What was read: a case, and whether it came out as the papers say; a text, which was printed, before the counts of the cases since the last one; or the end
+// of the input.
 #[derive(Clone, Copy)]
 enum Ran {
     Case(bool),
@@ -31,40 +26,38 @@ enum Ran {
 }
 
 // The cases since the last text.
-#[derive(Clone, Copy)]
+#[derive(Clone, Copy, Default)]
 struct Tally {
     right: u64,
     wrong: u64,
 }
 
-fn print_counts(rt: &impl Print, counts: Tally) -> io::Result<()> {
-    println!(rt; "{} right, {} wrong", counts.right, counts.wrong)
-}
-
-// Reads n bytes to the start of a buffer, and hands back how many came; none where the buffer is too short.
-fn read_part(input: &mut impl Read, n: usize, buf: &mut [u8]) -> io::Result<usize>
-    ensures came { ReadsAtMost result buf.new }
-    ensures failed { OnErr result (length buf.new ≡ length buf.old) }
-{
-    if buf.len() < n {
-        return Ok(0);
+impl Tally {
+    // One case more.
+    fn count(&mut self, is_right: bool) {
+        if is_right {
+            self.right = self.right.wrapping_add(1);
+        } else {
+            self.wrong = self.wrong.wrapping_add(1);
+        }
     }
-    read_full(input, &mut buf[..n])
-}
 
-// What a header asks; tools/make-cases says which bytes.
-fn question_of(header: &[u8; HEADER_SIZE]) -> Question {
-    Question {
-        routine: header[1],
-        expected: header[2],
-        column_type: header[3],
-        transform: header[4],
-        width: u32_at(header, 6),
-        lent: u16_at(header, 18) as usize,
+    fn print(self, rt: &impl Print) -> io::Result<()> {
+        println!(rt; "{} right, {} wrong", self.right, self.wrong)
     }
 }
 
-// Reads a case, its header, its three inputs and its result, and runs it; or prints a text.
+// Reads n bytes, or as many as there are, to the start of a buffer, and gives them.
+fn read_part<'a>(
+    input: &mut impl Read,
+    n: u16,
+    buf: &'a mut [u8; PART_SIZE],
+) -> io::Result<&'a [u8]> {
+    let came = read_full(input, &mut buf[..n as usize])?;
+    Ok(&buf[..came])
+}
+
+// Reads a case, its header, its three inputs and its result, and runs it; or prints a text. tools/make-cases says which bytes of a header are what.
 fn run(rt: &impl Print, input: &mut impl Read) -> io::Result<Ran> {
     let mut header = [0; HEADER_SIZE];
     if read_full(input, &mut header)? != HEADER_SIZE {
@@ -74,49 +67,38 @@ fn run(rt: &impl Print, input: &mut impl Read) -> io::Result<Ran> {
     let mut second = [0; PART_SIZE];
     let mut third = [0; PART_SIZE];
     let mut result = [0; PART_SIZE];
-    let first_len = read_part(input, u16_at(&header, 10) as usize, &mut first)?;
-    let second_len = read_part(input, u16_at(&header, 12) as usize, &mut second)?;
-    let third_len = read_part(input, u16_at(&header, 14) as usize, &mut third)?;
-    let result_len = read_part(input, u16_at(&header, 16) as usize, &mut result)?;
-    let question = question_of(&header);
-    if question.routine == TEXT {
-        rt.write_all(&first[..first_len])?;
+    let first = read_part(input, u16_at(&header, 10), &mut first)?;
+    let second = read_part(input, u16_at(&header, 12), &mut second)?;
+    let third = read_part(input, u16_at(&header, 14), &mut third)?;
+    let result = read_part(input, u16_at(&header, 16), &mut result)?;
+    let Ok(routine) = Routine::try_from(header[1]) else {
+        rt.write_all(first)?;
         return Ok(Ran::Text);
-    }
-    Ok(Ran::Case(is_right(
-        question,
-        &first[..first_len],
-        &second[..second_len],
-        &third[..third_len],
-        &result[..result_len],
-    )))
-}
-
-// The counts with one more case.
-fn count(counts: Tally, as_expected: bool) -> Tally {
-    let mut right = counts.right;
-    let mut wrong = counts.wrong;
-    if as_expected {
-        right = right.wrapping_add(1);
-    } else {
-        wrong = wrong.wrapping_add(1);
-    }
-    Tally { right, wrong }
+    };
+    let case = Case {
+        routine,
+        expected: u32::from(header[2]),
+        column_type: header[3],
+        transform: header[4],
+        width: u32_at(&header, 6),
+        lent: u16_at(&header, 18),
+        first,
+        second,
+        third,
+        result,
+    };
+    Ok(Ran::Case(case.is_right()))
 }
 
 fn main(rt: HostRuntime) -> io::Result<()> {
     let mut input = rt.stdin();
-    let mut counts = Tally { right: 0, wrong: 0 };
-    let mut left = MOST_CASES;
-    while left != 0 {
-        left -= 1;
+    let mut counts = Tally::default();
+    for _ in 0..MOST_CASES {
         match run(&rt, &mut input)? {
-            Ran::Case(right) => {
-                counts = count(counts, right);
-            }
+            Ran::Case(is_right) => counts.count(is_right),
             Ran::Text => {
-                print_counts(&rt, counts)?;
-                counts = Tally { right: 0, wrong: 0 };
+                counts.print(&rt)?;
+                counts = Tally::default();
             }
             Ran::End => break,
         }

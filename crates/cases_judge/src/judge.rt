@@ -1,39 +1,56 @@
 // One case: the routine is asked, or the program run, and its answer held against the one that the papers give.
-use answers::answer::Answer;
+use answers::answer::{Answer, answer_count, answer_number};
 use api::holds::holds;
 use api::literal::transform_literal;
 use api::project::{project, strict_project, strict_project_older};
 use files::files::test_summary;
 use filter::filter::{filter_project, filter_row, filter_strict_project};
-use meets::held::Held;
-use pool::pool::{PoolResult, Pooled, highest_end, lowest_end, pool};
-use text::program::{OUTPUT_SIZE, print_sheet};
-use values::order::starts_with;
+use meets::held::held_number;
+use pool::pool::{Pooled, highest_end, lowest_end, pool};
+use text::program::print_sheet;
 
-// The routines' numbers in a case; any other is the transform of one value.
-const HOLDS_TEST: u8 = 0;
+// What a case asks.
+#[derive(Clone, Copy)]
+pub enum Routine {
+    Holds,
+    Project,
+    StrictProject,
+    Transform,
+    // Not a routine, but all that program `weighpick` prints.
+    Program,
+    FilterRow,
+    FilterProject,
+    FilterStrictProject,
+    TestSummary,
+    Pool,
+    StrictProjectOlder,
+}
 
-const INCLUSIVE: u8 = 1;
+// What is no case but a text to print has a number among the routines' too.
+#[derive(Clone, Copy)]
+pub struct IsText;
 
-const STRICT: u8 = 2;
+// By the numbers of tools/make-cases; any other is the transform of one value too.
+impl TryFrom<u8> for Routine {
+    type Error = IsText;
 
-// Not a routine, but all that program `weighpick` prints.
-const PROGRAM: u8 = 5;
-
-const FILTER_ROW: u8 = 6;
-
-const FILTER_INCLUSIVE: u8 = 7;
-
-const FILTER_STRICT: u8 = 8;
-
-const TEST_SUMMARY: u8 = 9;
-
-const POOL: u8 = 10;
-
-const OLDER: u8 = 11;
-
-// The result of pooling: whose the ends are and the flag, a byte each, and then the ends.
-const ENDS_AT: usize = 3;
+    fn try_from(number: u8) -> Result<Routine, IsText> {
+        match number {
+            0 => Ok(Routine::Holds),
+            1 => Ok(Routine::Project),
+            2 => Ok(Routine::StrictProject),
+            4 => Err(IsText),
+            5 => Ok(Routine::Program),
+            6 => Ok(Routine::FilterRow),
+            7 => Ok(Routine::FilterProject),
+            8 => Ok(Routine::FilterStrictProject),
+            9 => Ok(Routine::TestSummary),
+            10 => Ok(Routine::Pool),
+            11 => Ok(Routine::StrictProjectOlder),
+            _ => Ok(Routine::Transform),
+        }
+    }
+}
 
 // What a lent buffer holds before the call: a byte that steps from place to place, so that bytes that were moved show too.
 const FIRST_FILLER: u8 = 165;
@@ -43,245 +60,133 @@ const FILLER_STEP: u8 = 7;
 // Room for the longest result buffer that a case can say: its length has 16 bits.
 const SPACE_SIZE: usize = 65536;
 
-// What a case asks beside its inputs and its result: the routine, the number expected, type, transform and width of a transform, and how long a result buffer
-// is lent.
+// A routine with its inputs in their order, the number and the result that are expected, type, transform and width of a transform, and how long a result
+// buffer is lent.
 #[derive(Clone, Copy)]
-pub struct Question {
-    pub routine: u8,
-    pub expected: u8,
+pub struct Case<'a> {
+    pub routine: Routine,
+    pub expected: u32,
     pub column_type: u8,
     pub transform: u8,
     pub width: u32,
-    pub lent: usize,
+    pub lent: u16,
+    pub first: &'a [u8],
+    pub second: &'a [u8],
+    pub third: &'a [u8],
+    pub result: &'a [u8],
+}
+
+// What place i of a lent buffer holds before the call.
+fn filler(i: usize) -> u8 {
+    FIRST_FILLER.wrapping_add(FILLER_STEP.wrapping_mul((i % 256) as u8))
 }
 
 fn fill(out: &mut [u8]) {
-    let mut filler = FIRST_FILLER;
-    let mut i = 0;
-    while i < out.len() {
-        out[i] = filler;
-        filler = filler.wrapping_add(FILLER_STEP);
-        i += 1;
+    for (i, place) in out.iter_mut().enumerate() {
+        *place = filler(i);
     }
 }
 
 // Whether a buffer holds what `fill` put there in every place from count on.
 fn is_filled_from(count: usize, out: &[u8]) -> bool {
-    let mut filler = FIRST_FILLER;
-    let mut i = 0;
-    while i < out.len() {
-        if count <= i {
-            if out[i] != filler {
-                return false;
-            }
-        }
-        filler = filler.wrapping_add(FILLER_STEP);
-        i += 1;
-    }
-    true
-}
-
-// Asks for the transform of a value.
-fn ask_transform(question: Question, value: &[u8], out: &mut [u8]) -> Answer {
-    transform_literal(
-        question.column_type,
-        question.transform,
-        question.width,
-        value,
-        out,
-    )
-}
-
-// Asks one of the five routines that write a result; the test of a summary takes both inputs, the others the first.
-fn ask(question: Question, first: &[u8], second: &[u8], out: &mut [u8]) -> Answer {
-    let routine = question.routine;
-    if routine == INCLUSIVE {
-        return project(first, out);
-    }
-    if routine == STRICT {
-        return strict_project(first, out);
-    }
-    if routine == OLDER {
-        return strict_project_older(first, out);
-    }
-    if routine == TEST_SUMMARY {
-        return test_summary(first, second, out);
-    }
-    ask_transform(question, first, out)
-}
-
-// Whether such a routine, lent this buffer, gives the number expected, counts and writes the result, and leaves every later byte.
-fn is_right_in(
-    question: Question,
-    first: &[u8],
-    second: &[u8],
-    res: &[u8],
-    out: &mut [u8],
-) -> bool {
-    fill(out);
-    let answer = ask(question, first, second, out);
-    if answer.number() != question.expected as u32 {
-        return false;
-    }
-    if answer.count() != res.len() {
-        return false;
-    }
-    if !starts_with(out, res) {
-        return false;
-    }
-    is_filled_from(res.len(), out)
-}
-
-// The same, lent the first bytes of some space, as many as the case says.
-fn is_right_within(
-    question: Question,
-    first: &[u8],
-    second: &[u8],
-    res: &[u8],
-    space: &mut [u8],
-) -> bool {
-    let lent = question.lent;
-    if space.len() < lent {
-        return false;
-    }
-    is_right_in(question, first, second, res, &mut space[..lent])
-}
-
-// Whether the holds-test gives the number expected; it has no result.
-fn is_held(expected: u8, sheet: &[u8], value: &[u8], res: &[u8]) -> bool {
-    if res.len() != 0 {
-        return false;
-    }
-    holds(sheet, value).number() == expected as u32
-}
-
-fn is_filter(routine: u8) -> bool {
-    if routine < FILTER_ROW {
-        return false;
-    }
-    routine <= FILTER_STRICT
-}
-
-// Asks one of the three routines of filters.
-fn ask_filter(routine: u8, columns: &[u8], text: &[u8], values: &[u8]) -> Held {
-    if routine == FILTER_ROW {
-        return filter_row(columns, text, values);
-    }
-    if routine == FILTER_INCLUSIVE {
-        return filter_project(columns, text, values);
-    }
-    filter_strict_project(columns, text, values)
-}
-
-// Whether such a routine gives the number expected; it has no result.
-fn is_filtered(question: Question, columns: &[u8], text: &[u8], values: &[u8], res: &[u8]) -> bool {
-    if res.len() != 0 {
-        return false;
-    }
-    ask_filter(question.routine, columns, text, values).number() == question.expected as u32
-}
-
-// Whether the program prints these bytes for a sheet, and leaves every later byte of its buffer.
-fn is_printed(sheet: &[u8], lines: &[u8]) -> bool {
-    let mut out = [0; OUTPUT_SIZE];
-    fill(&mut out);
-    if print_sheet(sheet, &mut out) != lines.len() {
-        return false;
-    }
-    if !starts_with(&out, lines) {
-        return false;
-    }
-    is_filled_from(lines.len(), &out)
-}
-
-fn wide(byte: u8) -> u64 {
-    byte as u64
+    out.iter()
+        .enumerate()
+        .skip(count)
+        .all(|(i, byte)| *byte == filler(i))
 }
 
 // Whether the two ends, one after the other, are these bytes.
 fn are_ends(lowest: &[u8], highest: &[u8], ends: &[u8]) -> bool {
-    if !starts_with(ends, lowest) {
-        return false;
-    }
-    let n = lowest.len();
-    if ends.len() < n {
-        return false;
-    }
-    if ends.len() - n != highest.len() {
-        return false;
-    }
-    starts_with(&ends[n..], highest)
+    ends.get(..lowest.len()) == Some(lowest) && ends.get(lowest.len()..) == Some(highest)
 }
 
-// Whether a result is whose the ends are, the flag, and the ends.
-fn is_told(pooled: Pooled, lowest: &[u8], highest: &[u8], res: &[u8]) -> bool {
-    if res.len() < ENDS_AT {
-        return false;
+// Whether these bytes are whose the ends are and the flag, a byte each, and then the ends.
+fn is_told(pooled: Pooled, lowest: &[u8], highest: &[u8], bytes: &[u8]) -> bool {
+    match bytes {
+        [whose_lowest, whose_highest, flag, ends @ ..] => {
+            u64::from(pooled.lowest) == u64::from(*whose_lowest)
+                && u64::from(pooled.highest) == u64::from(*whose_highest)
+                && pooled.flag == *flag
+                && are_ends(lowest, highest, ends)
+        }
+        _ => false,
     }
-    let low = pooled.lowest;
-    let high = pooled.highest;
-    if low.number() != wide(res[0]) {
-        return false;
-    }
-    if high.number() != wide(res[1]) {
-        return false;
-    }
-    if pooled.flag != res[2] {
-        return false;
-    }
-    are_ends(lowest, highest, &res[ENDS_AT..])
 }
 
-// Whether pooling gives the number expected, and hands back the ends; after a refusal they are empty, as the result is.
-fn is_pooled<'a>(expected: u8, first: &'a [u8], second: &'a [u8], res: &[u8]) -> bool {
-    let lowest = lowest_end(first, second);
-    let highest = highest_end(first, second);
-    match pool(first, second) {
-        PoolResult::Ok(pooled) => {
-            if expected != 0 {
-                return false;
+impl Case<'_> {
+    // Asks one of the five routines that write a result; the test of a summary takes both inputs, the others the first.
+    fn ask(self, out: &mut [u8]) -> Answer {
+        match self.routine {
+            Routine::Project => project(self.first, out),
+            Routine::StrictProject => strict_project(self.first, out),
+            Routine::StrictProjectOlder => strict_project_older(self.first, out),
+            Routine::TestSummary => test_summary(self.first, self.second, out),
+            _ => transform_literal(
+                self.column_type,
+                self.transform,
+                self.width,
+                self.first,
+                out,
+            ),
+        }
+    }
+
+    // Whether such a routine, lent a buffer as long as the case says, gives the number expected, counts and writes the result, and leaves every later byte.
+    fn is_written(self) -> bool {
+        let mut space = [0; SPACE_SIZE];
+        let out = &mut space[..self.lent as usize];
+        fill(out);
+        let answer = self.ask(out);
+        let size = self.result.len();
+        answer_number(answer) == self.expected
+            && answer_count(answer) == size
+            && out.get(..size) == Some(self.result)
+            && is_filled_from(size, out)
+    }
+
+    // Whether the holds-test gives the number expected; it has no result.
+    fn is_held(self) -> bool {
+        self.result.is_empty() && held_number(holds(self.first, self.second)) == self.expected
+    }
+
+    // Whether one of the three routines of filters does; they have no result.
+    fn is_filtered(self) -> bool {
+        let held = match self.routine {
+            Routine::FilterRow => filter_row(self.first, self.second, self.third),
+            Routine::FilterProject => filter_project(self.first, self.second, self.third),
+            _ => filter_strict_project(self.first, self.second, self.third),
+        };
+        self.result.is_empty() && held_number(held) == self.expected
+    }
+
+    // Whether the program prints the result for a sheet.
+    fn is_printed(self) -> bool {
+        print_sheet(self.first).as_slice() == self.result
+    }
+
+    // Whether pooling gives the number expected, and hands back the ends; after a refusal they are empty, as the result is.
+    fn is_pooled(self) -> bool {
+        let lowest = lowest_end(self.first, self.second);
+        let highest = highest_end(self.first, self.second);
+        match pool(self.first, self.second) {
+            Ok(pooled) => self.expected == 0 && is_told(pooled, lowest, highest, self.result),
+            Err(e) => u32::from(e) == self.expected && are_ends(lowest, highest, self.result),
+        }
+    }
+
+    // Whether a case comes out as expected. An input that the routine does not take has to be empty, so that no case passes with bytes that nothing looked at.
+    pub fn is_right(self) -> bool {
+        match self.routine {
+            Routine::FilterRow | Routine::FilterProject | Routine::FilterStrictProject => {
+                self.is_filtered()
             }
-            is_told(pooled, lowest, highest, res)
-        }
-        PoolResult::Err(e) => {
-            if e.number() != expected as u32 {
-                return false;
-            }
-            are_ends(lowest, highest, res)
-        }
-    }
-}
-
-// Whether a case comes out as expected. Its inputs are the routine's, in their order; one that the routine does not take has to be empty, so that no case
-// passes with bytes that nothing looked at.
-pub fn is_right<'a>(
-    question: Question,
-    first: &'a [u8],
-    second: &'a [u8],
-    third: &[u8],
-    res: &[u8],
-) -> bool {
-    let routine = question.routine;
-    if is_filter(routine) {
-        return is_filtered(question, first, second, third, res);
-    }
-    if third.len() != 0 {
-        return false;
-    }
-    if routine == HOLDS_TEST {
-        return is_held(question.expected, first, second, res);
-    }
-    if routine == POOL {
-        return is_pooled(question.expected, first, second, res);
-    }
-    if routine != TEST_SUMMARY {
-        if second.len() != 0 {
-            return false;
+            _ if !self.third.is_empty() => false,
+            Routine::Holds => self.is_held(),
+            Routine::Pool => self.is_pooled(),
+            Routine::TestSummary => self.is_written(),
+            _ if !self.second.is_empty() => false,
+            Routine::Program => self.is_printed(),
+            _ => self.is_written(),
         }
     }
-    if routine == PROGRAM {
-        return is_printed(first, res);
-    }
-    let mut space = [0; SPACE_SIZE];
-    is_right_within(question, first, second, res, &mut space)
 }

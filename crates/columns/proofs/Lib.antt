@@ -1,4 +1,4 @@
 -- Lemmas that several proofs of this crate share.
 pub mod Names
-pub mod Lists
+pub mod Entries
 pub mod CellReads

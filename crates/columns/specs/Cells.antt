@@ -1,6 +1,6 @@
 -- The values that stand beside a column list: one record a column, as a row or as partition values. Assumes nothing.
-use Rattle.std.specs.Prelude.{ℕ, suc, ◌*◌, List, [], ◌∷◌, ◌==◌, length}
-use Rattle.values.specs.Outcomes.{Res, ok, err, need, each, ◌>>=◌, ◌>>◌, Row}
+use Rattle.std.specs.Prelude.{ℕ, suc, ◌*◌, List, [], ◌∷◌, ◌==◌, length, Ok, Err}
+use Rattle.values.specs.Outcomes.{Res, need, each, ◌>>=◌, ◌>>◌, Row}
 use Rattle.values.specs.Types.{layout}
 use Rattle.values.specs.declared.datatypes.PrimitiveType.{PrimitiveType}
 use Rattle.values.specs.declared.error.ErrorKind.TheVariants.{Malformed}
@@ -14,8 +14,8 @@ pub data Side : Type 0 where
   rows parts : Side
 
 abbrev pub type_or : PrimitiveType → Res PrimitiveType → PrimitiveType
-type_or column (ok to) = to
-type_or column (err e) = column
+type_or column (Ok to) = to
+type_or column (Err e) = column
 
 abbrev pub type_of : Side → Column → PrimitiveType
 type_of rows c = c.head.column
@@ -28,11 +28,11 @@ pub record Cell : Type 0 where
 
 -- record k is the first column's value, the next one the second's, ..
 abbrev pub cells_from : Side → List ℕ → ℕ → List Column → Res (List Cell)
-cells_from side v k [] = ok []
+cells_from side v k [] = Ok []
 cells_from side v k (c ∷ cs) = do
   r ← value (layout (type_of side c)) (record_at v k)
   cells ← cells_from side v (suc k) cs
-  ok (record { column = c; row = r } ∷ cells)
+  Ok (record { column = c; row = r } ∷ cells)
 
 -- 4: "a String literal or value is not UTF-8"
 abbrev pub read_cell : Side → Cell → Res (Row (List ℕ))
@@ -45,4 +45,4 @@ cells_of side c v = do
   need (length v == record_size * length cs) Malformed
   cells ← cells_from side v 0 cs
   read ← each (read_cell side) cells
-  ok cells
+  Ok cells

@@ -1,9 +1,9 @@
 -- Column lists: the columns that a filter can name, as bytes. One rule of document 02 a line; what fails one is 3. Assumes nothing.
-use Rattle.std.specs.Prelude.{ℕ, zero, suc, ◌+◌, ◌-◌, ◌*◌, ◌/◌, ◌%◌, Bool, true, not, ◌&&◌, List, [], ◌∷◌, ◌++◌, map, nat_lt, nat_le, ◌==◌, length}
+use Rattle.std.specs.Prelude.{ℕ, zero, suc, ◌+◌, ◌-◌, ◌*◌, ◌/◌, ◌%◌, Bool, true, not, ◌&&◌, List, [], ◌∷◌, ◌++◌, map, nat_lt, nat_le, ◌==◌, length, Ok}
 use Rattle.values.specs.Ascending.{elem}
 use Rattle.values.specs.Characters.{ascii, is_letter, leading}
 use Rattle.values.specs.Order.{compare_bytes}
-use Rattle.values.specs.Outcomes.{Res, ok, need, each, ◌>>=◌, ◌>>◌}
+use Rattle.values.specs.Outcomes.{Res, need, each, ◌>>=◌, ◌>>◌}
 use Rattle.values.specs.Words.{field, word, zero_at}
 use Rattle.values.specs.declared.error.ErrorKind.TheVariants.{Malformed}
 use Rattle.sheet.specs.Records.{record_size, next_in}
@@ -35,7 +35,7 @@ checked_name bytes name = do
   need (nat_lt 0 (length name)) Malformed
   need (zero_at (length name) (name_size - length name) bytes) Malformed
   need (not (elem compare_bytes name reserved)) Malformed
-  ok name
+  Ok name
 
 abbrev pub name_in : List ℕ → Res (List ℕ)
 name_in bytes = checked_name bytes (leading is_letter bytes)
@@ -51,7 +51,7 @@ unfoldable pub column : List ℕ → Res Column
 column entry = do
   n ← name_in (field 0 name_size entry)
   h ← plain_head (field name_size record_size entry)
-  ok (record { name = n; head = h })
+  Ok (record { name = n; head = h })
 
 -- ---- a list of columns
 
@@ -75,4 +75,4 @@ columns c = do
   need (nat_le (length c) (entry_size * column_limit)) Malformed
   cs ← each (λ k. column (entry_at c k)) (first_numbers (length c / entry_size))
   need (names_apart (map (λ d. d.name) cs)) Malformed
-  ok cs
+  Ok cs

@@ -2,4 +2,5 @@
 pub mod EachLaws
 pub mod NameLaws
 pub mod ColumnLaws
+pub mod ListedColumnLaws
 pub mod CellLaws

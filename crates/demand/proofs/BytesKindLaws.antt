@@ -1,5 +1,6 @@
 -- Byte strings are a lawful kind: what is read is no longer than its type allows and UTF-8 in a String, and so are partition values and predicates.
 -- Assumes nothing.
+use Rattle.std.specs.Prelude.{Ok}
 use Prim.Native.Nat.{ℕ, ◌≤◌, ◌<◌}
 use native.Mathlib.Omega.{arith}
 use mathlib.Core.Bool.{true≢false}
@@ -8,10 +9,10 @@ use mathlib.Core.Path.{◌≡◌, sym, ap, subst, ◌∙◌}
 use lib.ListN.{length}
 use borrow.Author.Tests.{leb-true, le-leb}
 use Rattle.values.specs.code.Places.{AllOf}
-use Rattle.values.specs.Outcomes.{ok, Row, missing, present}
+use Rattle.values.specs.Outcomes.{Row, missing, present}
 use Rattle.values.specs.laws.OutcomeLaws.{ok_inj, passing, passed}
 use Rattle.values.specs.Types.{number, bytes, layout, type_number}
-use Rattle.values.specs.code.TypeResults.{is_bytes}
+use Rattle.values.specs.code.ByteTypes.{is_bytes}
 use Rattle.values.specs.laws.TypesLaws.{bytes_layout}
 use Rattle.values.specs.declared.datatypes.PrimitiveType.{PrimitiveType}
 use Rattle.values.specs.declared.datatypes.PrimitiveType.TheVariants.{Int, Long, Date, Time, Timestamp, Timestamptz, TimestampNs, TimestamptzNs, String, Binary}
@@ -66,7 +67,7 @@ bytes_above String n e = omega arith
 bytes_above Binary n e = omega arith
 
 -- the result type is one of byte strings
-pub bytes_result_lem : (column to : PrimitiveType) (transform : Transform) (n : ℕ) → layout column ≡ bytes n → result_type transform column ≡ ok to
+pub bytes_result_lem : (column to : PrimitiveType) (transform : Transform) (n : ℕ) → layout column ≡ bytes n → result_type transform column ≡ Ok to
     → layout to ≡ bytes n
 unfolding result_type
 bytes_result_lem column to Identity n is e = ap layout (sym (ok_inj e)) ∙ is
@@ -121,20 +122,20 @@ pub row_held : (column : PrimitiveType) (n : ℕ) (transform : Transform) (r p :
 row_held column n transform r p h = ((row_parts column n r h.0).0, h.1)
 
 -- ---- the kind
-module _ (column to : PrimitiveType) (transform : Transform) (n : ℕ) (result : result_type transform column ≡ ok to) where
-  pub bytes_part : (r p : Row (List ℕ)) → OfPresent (ShortIn column n) r → bytes_partition column transform r ≡ ok p → OfPresent (ShortIn to n) p
+module _ (column to : PrimitiveType) (transform : Transform) (n : ℕ) (result : result_type transform column ≡ Ok to) where
+  pub bytes_part : (r p : Row (List ℕ)) → OfPresent (ShortIn column n) r → bytes_partition column transform r ≡ Ok p → OfPresent (ShortIn to n) p
   bytes_part r p h e =
       let both = row_parts column n r h in
       row_both to n p (bytes_partition_lands column to transform r p result e both.0) (bytes_partition_short n column transform r p e both.1)
 
   pub bytes_literals : (question : Question) (l p : Predicate (List ℕ)) → Landed (ShortIn column n) project_limit l
-      → project_bytes question column transform l ≡ ok (some p) → Landed (ShortIn to n) holds_limit p
+      → project_bytes question column transform l ≡ Ok (some p) → Landed (ShortIn to n) holds_limit p
   bytes_literals question l p h e =
       let both = all_parts column n (literals_in l) h.all in
       let x = bytes_land question column to transform l p result both.0 e in
       record { all = all_both to n (literals_in p) x.all (bytes_short n question column transform l p both.1 e); count = omega (arith, x.count, h.count) }
 
-unfoldable pub bytes_kind : (column to : PrimitiveType) (transform : Transform) (n : ℕ) → layout column ≡ bytes n → result_type transform column ≡ ok to
+unfoldable pub bytes_kind : (column to : PrimitiveType) (transform : Transform) (n : ℕ) → layout column ≡ bytes n → result_type transform column ≡ Ok to
     → KindLaws column to transform (byte_strings column transform)
 unfolding bytes_values transformed_row
 bytes_kind column to transform n is result = record {

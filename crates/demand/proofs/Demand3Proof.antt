@@ -1,5 +1,6 @@
 -- Demand 3 over the bytes of the routines: a sheet that is answered is one of numbers or one of byte strings, and for each the demand is that over leaves.
 -- Assumes nothing.
+use Rattle.std.specs.Prelude.{Ok}
 use Prim.Native.Nat.{ℕ}
 use native.Mathlib.Omega.{arith}
 use mathlib.Core.List.{List}
@@ -7,7 +8,6 @@ use mathlib.Core.Logic.{◌⊎◌, inl, inr, ⊎_elim}
 use mathlib.Core.Path.{◌≡◌, refl, sym, ap, ◌∙◌}
 use Rattle.values.specs.code.Places.{AllOf}
 use Rattle.values.specs.Numbered.{find}
-use Rattle.values.specs.Outcomes.{ok}
 use Rattle.values.specs.laws.OutcomeLaws.{ok_inj, gone}
 use Rattle.values.specs.Transforms.{transform_of}
 use Rattle.values.specs.Types.{Layout, number, bytes, layout, types, type_number}
@@ -50,15 +50,15 @@ abbrev pub ByBytes : Question → List ℕ → List ℕ → Type 0
 ByBytes question s q = By bytes (λ column transform n. byte_strings column transform) question s q
 
 module _ (question : Question) (s q : List ℕ) where
-  by_layout_lem : (column : PrimitiveType) (transform : Transform) (content : Predicate (List ℕ)) → sheet project_limit s ≡ ok (sheet_of column transform content)
-      → projected_leaf question column transform content ≡ ok (some q) → ByNumbers question s q ⊎ ByBytes question s q
+  by_layout_lem : (column : PrimitiveType) (transform : Transform) (content : Predicate (List ℕ)) → sheet project_limit s ≡ Ok (sheet_of column transform content)
+      → projected_leaf question column transform content ≡ Ok (some q) → ByNumbers question s q ⊎ ByBytes question s q
   unfolding projected_leaf
   by_layout_lem column transform content a e = go (layout column) refl e
     where
       go : (l : Layout) → layout column ≡ l
           → by_layout l (λ n. projected (numbers column transform n) column transform question content)
           (projected (byte_strings column transform) column transform question content)
-          ≡ ok (some q)
+          ≡ Ok (some q)
           → ByNumbers question s q ⊎ ByBytes question s q
       go (number n) is e =
           let answer = returned (numbers column transform n) column transform question s q content a e in
@@ -85,7 +85,7 @@ module _ {question : Question} {s q : List ℕ} where
   bytes_law b = bytes_kind b.column b.answer.to b.transform b.size b.is b.answer.result_is
 
 -- ---- byte strings
-pub head_type : (type transform width : ℕ) (h : Head) → head type transform width ≡ ok h → type_number h.column ≡ type
+pub head_type : (type transform width : ℕ) (h : Head) → head type transform width ≡ Ok h → type_number h.column ≡ type
 unfolding head
 head_type type transform width h e =
     let t = gone (find types type) _ e in

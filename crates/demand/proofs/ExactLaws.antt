@@ -1,4 +1,5 @@
 -- Numbers and times over bytes: nothing is kept that need not be. Assumes nothing.
+use Rattle.std.specs.Prelude.{Ok}
 use Prim.Native.Nat.{ℕ}
 use native.Mathlib.Omega.{arith}
 use mathlib.Core.Bool.{true}
@@ -6,7 +7,7 @@ use mathlib.Core.List.{List}
 use mathlib.Core.Logic.{◌⊎◌, inl, inr, ⊎_elim, ◌↔◌}
 use mathlib.Core.Path.{◌≡◌, refl, sym, ap, subst, ◌∙◌}
 use lib.IntN.{ℤ, suc_ℤ}
-use Rattle.values.specs.Outcomes.{ok, Row, missing, present}
+use Rattle.values.specs.Outcomes.{Row, missing, present}
 use Rattle.values.specs.laws.OutcomeLaws.{ok_inj}
 use Rattle.values.specs.Types.{number, layout, in_type}
 use Rattle.values.proofs.TwosComplement.{signed_bytes_lem}
@@ -33,7 +34,7 @@ use Rattle.demand.proofs.KindRowLaws.{reading, good_leaf, Part, part_of, row_of,
 
 -- what is lifted, by the head of a sheet
 pub head_lifts : (column : PrimitiveType) (transform : Transform) (s : List ℕ)
-    → head (type_in s) (transform_in s) (width_in s) ≡ ok (record { column = column; transform = transform }) → Lifts s ↔ (lifted column transform ≡ true)
+    → head (type_in s) (transform_in s) (width_in s) ≡ Ok (record { column = column; transform = transform }) → Lifts s ↔ (lifted column transform ≡ true)
 head_lifts column transform s head_is = (
   λ h. subst (λ (x : Head). lifted x.column x.transform ≡ true) (ok_inj (sym h.1 ∙ head_is)) h.2,
   λ h. (record { column = column; transform = transform }, head_is, h),

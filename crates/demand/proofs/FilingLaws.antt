@@ -1,5 +1,6 @@
 -- What a kind of values owes of files of older writers: a row that is filed over bytes is filed over values, and nothing is lost over values. Numbers and byte
 -- strings owe it. Assumes nothing.
+use Rattle.std.specs.Prelude.{Ok}
 use Prim.Native.Nat.{ℕ}
 use mathlib.Core.Bool.{true, false}
 use mathlib.Core.List.{List}
@@ -7,7 +8,7 @@ use mathlib.Core.Logic.{inl, inr}
 use mathlib.Core.Path.{◌≡◌, refl, sym, subst, ◌∙◌}
 use lib.IntN.{suc_ℤ}
 use Rattle.values.specs.code.Places.{AllOf}
-use Rattle.values.specs.Outcomes.{ok, Row, present}
+use Rattle.values.specs.Outcomes.{Row, present}
 use Rattle.values.specs.laws.RangeLaws.{next_in_type}
 use Rattle.values.specs.laws.TestLaws.{clash}
 use Rattle.values.specs.Types.{number, bytes, layout}
@@ -51,12 +52,12 @@ pub record FiledUnder {A B : Type 0} {column to : PrimitiveType} {transform : Tr
 pub record FilingLaws {A B : Type 0} {column to : PrimitiveType} {transform : Transform} {k : Kind A B} (law : KindLaws column to transform k) : Type 1 where
   -- under which values rows of a partition value may be filed
   pub MayFile : Row B → Row B → Type 0
-  pub filed : (s v f : List ℕ) → head (type_in s) (transform_in s) (width_in s) ≡ ok (record { column = column; transform = transform }) → Filed s f v
+  pub filed : (s v f : List ℕ) → head (type_in s) (transform_in s) (width_in s) ≡ Ok (record { column = column; transform = transform }) → Filed s f v
       → FiledUnder law MayFile v f
-  pub no_older_row_lost : (leaf : Predicate A) (q : Predicate B) → AllOf law.rows.Good (literals_in leaf) → k.project Inclusive leaf ≡ ok (some q)
+  pub no_older_row_lost : (leaf : Predicate A) (q : Predicate B) → AllOf law.rows.Good (literals_in leaf) → k.project Inclusive leaf ≡ Ok (some q)
       → (r : Row A) (p f : Row B) → over-values.RowOf law.rows.Good k.partition r p → MayFile p f
       → holds law.row_tests leaf r ≡ true → holds law.part_tests q f ≡ true
-  pub older_is_safe : (leaf : Predicate A) (q : Predicate B) → AllOf law.rows.Good (literals_in leaf) → k.project Older leaf ≡ ok (some q)
+  pub older_is_safe : (leaf : Predicate A) (q : Predicate B) → AllOf law.rows.Good (literals_in leaf) → k.project Older leaf ≡ Ok (some q)
       → (r : Row A) (p f : Row B) → over-values.RowOf law.rows.Good k.partition r p → MayFile p f
       → holds law.part_tests q f ≡ true → holds law.row_tests leaf r ≡ true
 
@@ -74,11 +75,11 @@ under_own law MayFile itself v f m = record {
 
 -- ---- numbers: where the transform is lifted, a row of a negative number under the next one too
 module _ (column to : PrimitiveType) (transform : Transform) (n : ℕ) (is : layout column ≡ number n) (Known-is : known transform ≡ true)
-    (result : result_type transform column ≡ ok to) where
+    (result : result_type transform column ≡ Ok to) where
   abbrev numbers_law : KindLaws column to transform (numbers column transform n)
   numbers_law = number_kind column to transform n is Known-is result
 
-  number_filed : (s v f : List ℕ) → head (type_in s) (transform_in s) (width_in s) ≡ ok (record { column = column; transform = transform }) → Filed s f v
+  number_filed : (s v f : List ℕ) → head (type_in s) (transform_in s) (width_in s) ≡ Ok (record { column = column; transform = transform }) → Filed s f v
       → FiledUnder numbers_law (older-values.Filed (lifted column transform)) v f
   unfolding number_kind number_values
   number_filed s v f head_is (inl h) =
@@ -111,7 +112,7 @@ module _ (column to : PrimitiveType) (transform : Transform) (n : ℕ) (is : lay
   }
 
 -- ---- byte strings: no transform of theirs is lifted
-module _ (column to : PrimitiveType) (transform : Transform) (n : ℕ) (is : layout column ≡ bytes n) (result : result_type transform column ≡ ok to) where
+module _ (column to : PrimitiveType) (transform : Transform) (n : ℕ) (is : layout column ≡ bytes n) (result : result_type transform column ≡ Ok to) where
   abbrev bytes_law : KindLaws column to transform (byte_strings column transform)
   bytes_law = bytes_kind column to transform n is result
 
@@ -119,7 +120,7 @@ module _ (column to : PrimitiveType) (transform : Transform) (n : ℕ) (is : lay
   unfolding result_type
   not_lifted = go transform result
     where
-      go : (t : Transform) → result_type t column ≡ ok to → lifted column t ≡ false
+      go : (t : Transform) → result_type t column ≡ Ok to → lifted column t ≡ false
       go Identity r = refl
       go (Truncate width) r = refl
       go Year r = not_listed with_days column Int (no_time column n is).0 r
@@ -129,7 +130,7 @@ module _ (column to : PrimitiveType) (transform : Transform) (n : ℕ) (is : lay
       go Void r = refl
       go Unknown r = refl
 
-  bytes_filed : (s v f : List ℕ) → head (type_in s) (transform_in s) (width_in s) ≡ ok (record { column = column; transform = transform }) → Filed s f v
+  bytes_filed : (s v f : List ℕ) → head (type_in s) (transform_in s) (width_in s) ≡ Ok (record { column = column; transform = transform }) → Filed s f v
       → FiledUnder bytes_law (λ p f. p ≡ f) v f
   bytes_filed s v f head_is (inl h) = under_own bytes_law (λ p f. p ≡ f) (λ y. refl) v f (row_part bytes_law s v f head_is h)
   bytes_filed s v f head_is (inr x) = clash ((head_lifts column transform s head_is).0 x.0) not_lifted

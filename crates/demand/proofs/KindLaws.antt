@@ -1,10 +1,11 @@
 -- What a kind of values owes over one column: what is read, projected and transformed is good in its type, and the routines go by the kind. Then what a
 -- returned answer sheet and a value record that has a partition value were read as. Assumes nothing.
+use Rattle.std.specs.Prelude.{Ok}
 use Prim.Native.Nat.{ℕ}
 use mathlib.Core.Bool.{true≢false}
 use mathlib.Core.List.{List}
 use mathlib.Core.Path.{◌≡◌, refl, sym, ap, ◌∙◌}
-use Rattle.values.specs.Outcomes.{Res, ok, Row}
+use Rattle.values.specs.Outcomes.{Res, Row}
 use Rattle.values.specs.laws.OutcomeLaws.{ok_inj, going, gone}
 use Rattle.values.specs.Types.{layout}
 use Rattle.values.specs.declared.datatypes.PrimitiveType.{PrimitiveType}
@@ -30,16 +31,16 @@ use Rattle.demand.proofs.ReadBackLaws.{sheet_of, ValueLaws, row_good}
 
 -- `to` is the result type
 pub record KindLaws {A B : Type 0} (column to : PrimitiveType) (transform : Transform) (k : Kind A B) : Type 1 where
-  pub result : result_type transform column ≡ ok to
+  pub result : result_type transform column ≡ Ok to
   pub row_write : A → List ℕ
   pub row_tests : Tests A
   pub rows : ValueLaws column k.read row_write row_tests
   pub part_read : List ℕ → Res B
   pub part_tests : Tests B
   pub parts : ValueLaws to part_read (k.write to) part_tests
-  pub part_good : (r : Row A) (p : Row B) → OfPresent rows.Good r → k.partition r ≡ ok p → OfPresent parts.Good p
+  pub part_good : (r : Row A) (p : Row B) → OfPresent rows.Good r → k.partition r ≡ Ok p → OfPresent parts.Good p
   pub project_good : (question : Question) (l : Predicate A) (p : Predicate B) → Landed rows.Good project_limit l
-      → k.project question l ≡ ok (some p) → Landed parts.Good holds_limit p
+      → k.project question l ≡ Ok (some p) → Landed parts.Good holds_limit p
   pub transforms : (row : Row (List ℕ)) → transformed_row column transform row ≡ transformed k column transform row
 
 -- s is read as a leaf, and q is written of the predicate that it is projected to
@@ -48,10 +49,10 @@ pub record Returned {A B : Type 0} (k : Kind A B) (column : PrimitiveType) (tran
   pub content : Predicate (List ℕ)
   pub leaf : Predicate A
   pub predicate : Predicate B
-  pub sheet_is : sheet project_limit s ≡ ok (sheet_of column transform content)
-  pub leaf_is : each_literal k.read content ≡ ok leaf
-  pub result_is : result_type transform column ≡ ok to
-  pub project_is : k.project question leaf ≡ ok (some predicate)
+  pub sheet_is : sheet project_limit s ≡ Ok (sheet_of column transform content)
+  pub leaf_is : each_literal k.read content ≡ Ok leaf
+  pub result_is : result_type transform column ≡ Ok to
+  pub project_is : k.project question leaf ≡ Ok (some predicate)
   pub bytes_is : answer_sheet to (map_literals (k.write to) predicate) ≡ q
 
 -- v is read as a row, and p is written of its partition value
@@ -59,9 +60,9 @@ pub record HasPart {A B : Type 0} (k : Kind A B) (column to : PrimitiveType) (v 
   pub content : Row (List ℕ)
   pub row : Row A
   pub part : Row B
-  pub value_is : value (layout column) v ≡ ok content
-  pub row_is : read_row k.read content ≡ ok row
-  pub part_is : k.partition row ≡ ok part
+  pub value_is : value (layout column) v ≡ Ok content
+  pub row_is : read_row k.read content ≡ Ok row
+  pub part_is : k.partition row ≡ Ok part
   pub bytes_is : value_record (map_row (k.write to) part) ≡ p
 
 -- both are of their types
@@ -73,13 +74,13 @@ module _ {A B : Type 0} {k : Kind A B} {column to : PrimitiveType} {transform : 
   pub good_part : OfPresent law.parts.Good m.part
   good_part = law.part_good m.row m.part good_row m.part_is
 
-mapped_some : {P Q : Type 0} (f : P → Q) (r : Projected P) {q : Q} → ok (mapped f r) ≡ ok (some q) → (p : P) × (r ≡ some p) × (f p ≡ q)
+mapped_some : {P Q : Type 0} (f : P → Q) (r : Projected P) {q : Q} → ◌≡◌ {A = Res (Projected Q)} (Ok (mapped f r)) (Ok (some q)) → (p : P) × (r ≡ some p) × (f p ≡ q)
 mapped_some f (some p) e = (p, refl, cc)
 mapped_some f none e = absurd (true≢false (cc))
 
 module _ {A B : Type 0} (k : Kind A B) (column : PrimitiveType) (transform : Transform) where
-  pub returned : (question : Question) (s q : List ℕ) (content : Predicate (List ℕ)) → sheet project_limit s ≡ ok (sheet_of column transform content)
-      → projected k column transform question content ≡ ok (some q) → Returned k column transform question s q
+  pub returned : (question : Question) (s q : List ℕ) (content : Predicate (List ℕ)) → sheet project_limit s ≡ Ok (sheet_of column transform content)
+      → projected k column transform question content ≡ Ok (some q) → Returned k column transform question s q
   returned question s q content is e =
       let l = gone (each_literal k.read content) _ e in
       let to = gone (result_type transform column) _ l.2 in
@@ -93,12 +94,12 @@ module _ {A B : Type 0} (k : Kind A B) (column : PrimitiveType) (transform : Tra
         sheet_is = is;
         leaf_is = l.1;
         result_is = to.1;
-        project_is = p.1 ∙ ap ok b.1;
+        project_is = p.1 ∙ ap Ok b.1;
         bytes_is = b.2;
       }
 
 module _ {A B : Type 0} {k : Kind A B} {column to : PrimitiveType} {transform : Transform} (law : KindLaws column to transform k) (s v p : List ℕ)
-    (head_is : head (type_in s) (transform_in s) (width_in s) ≡ ok (record { column = column; transform = transform })) where
+    (head_is : head (type_in s) (transform_in s) (width_in s) ≡ Ok (record { column = column; transform = transform })) where
   pub row_part : RowOf s p v → HasPart k column to v p
   unfolding transform_value
   row_part h =
@@ -126,4 +127,4 @@ module _ {A B : Type 0} {k : Kind A B} {column to : PrimitiveType} {transform : 
       ∙ going _ m.row_is
       ∙ going _ law.result
       ∙ going _ m.part_is
-      ∙ ap ok m.bytes_is
+      ∙ ap Ok m.bytes_is

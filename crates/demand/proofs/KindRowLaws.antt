@@ -1,4 +1,5 @@
 -- Rows, leaves and predicates over bytes and over values, in any kind: what is met of the one is met of the other. Assumes nothing.
+use Rattle.std.specs.Prelude.{Ok}
 use Prim.Native.Nat.{ℕ, suc, ◌*◌, ◌≤◌}
 use native.Mathlib.Omega.{arith}
 use mathlib.Core.Bool.{Bool, true}
@@ -7,7 +8,7 @@ use mathlib.Core.Logic.{◌↔◌}
 use mathlib.Core.Path.{◌≡◌, refl, sym, ap, ap₂, ◌∙◌}
 use lib.ListN.{length}
 use Rattle.values.specs.Words.{AllBytes}
-use Rattle.values.specs.Outcomes.{Res, ok, Row}
+use Rattle.values.specs.Outcomes.{Res, Row}
 use Rattle.values.specs.laws.OutcomeLaws.{ok_inj}
 use Rattle.values.specs.declared.datatypes.PrimitiveType.{PrimitiveType}
 use Rattle.values.specs.declared.transform.Transform.{Transform}
@@ -26,8 +27,8 @@ use Rattle.sheet.specs.Values.{map_row}
 use Rattle.demand.proofs.KindLaws.{KindLaws, Returned, HasPart, good_row, good_part, row_part, part_row}
 use Rattle.demand.proofs.ReadBackLaws.{sheet_of, leaf_good, row_record, row_back, record_back, record_inj, sheet_length, holds_read, holds_written}
 
-accepted : {r : Res Bool} {b : Bool} → r ≡ ok b → (r ≡ ok true) ↔ (b ≡ true)
-accepted e = (λ h. ok_inj (sym e ∙ h), λ h. e ∙ ap ok h)
+accepted : {r : Res Bool} {b : Bool} → r ≡ Ok b → (r ≡ Ok true) ↔ (b ≡ true)
+accepted e = (λ h. ok_inj (sym e ∙ h), λ h. e ∙ ap Ok h)
 
 module _ {A B : Type 0} {k : Kind A B} {column : PrimitiveType} {transform : Transform} {question : Question} {s q : List ℕ}
     (a : Returned k column transform question s q) (law : KindLaws column a.to transform k) where
@@ -127,10 +128,10 @@ module _ {A B : Type 0} {k : Kind A B} {column : PrimitiveType} {transform : Tra
       → (r : Row A) × Row-of r y × (holds law.row_tests a.leaf r ≡ true)
   row_some y p same f =
       let m = part_of f.0 p f.2 in
-      (m.row, (good_row law f.0 p m, m.part_is ∙ ap ok (same f.0 m)), (meets_leaf f.0 p m).0 f.3)
+      (m.row, (good_row law f.0 p m, m.part_is ∙ ap Ok (same f.0 m)), (meets_leaf f.0 p m).0 f.3)
 
   pub rows_all : (y : Row B) (p : List ℕ) → ((u : List ℕ) (m : Part u p) → m.part ≡ y)
       → ((r : Row A) → Row-of r y → holds law.row_tests a.leaf r ≡ true) → AllRows s p
   rows_all y p same f u b h =
       let m = part_of u p h in
-      (meets_leaf u p m).1 (f m.row (good_row law u p m, m.part_is ∙ ap ok (same u m)))
+      (meets_leaf u p m).1 (f m.row (good_row law u p m, m.part_is ∙ ap Ok (same u m)))

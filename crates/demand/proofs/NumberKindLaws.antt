@@ -1,5 +1,6 @@
 -- Numbers and times are a lawful kind: what is read is in the column's type, and partition values and predicates are in the result type.
 -- Assumes nothing.
+use Rattle.std.specs.Prelude.{Ok}
 use Prim.Native.Nat.{ℕ}
 use native.Mathlib.Omega.{arith}
 use mathlib.Core.Bool.{true, false, false≢true}
@@ -9,7 +10,6 @@ use lib.IntN.{ℤ}
 use lib.ListN.{length}
 use borrow.Author.Tests.{eq-eqb}
 use Rattle.values.specs.Order.{compare_numbers}
-use Rattle.values.specs.Outcomes.{ok}
 use Rattle.values.specs.laws.OutcomeLaws.{ok_inj}
 use Rattle.values.specs.laws.TestLaws.{clash}
 use Rattle.values.specs.Types.{Layout, number, bytes, layout, fits, in_layout, in_type}
@@ -45,7 +45,7 @@ use Rattle.demand.proofs.ReadBackLaws.{ValueLaws}
 
 -- ---- the number types
 -- a known transform keeps the column's type, or gives a type of four bytes, as those that are lifted do
-result_layout : (column to : PrimitiveType) (transform : Transform) → known transform ≡ true → result_type transform column ≡ ok to
+result_layout : (column to : PrimitiveType) (transform : Transform) → known transform ≡ true → result_type transform column ≡ Ok to
     → ((column ≡ to) × (lifted column transform ≡ false)) ⊎ (layout to ≡ number 4)
 unfolding result_type
 result_layout column to Identity k e = inl (ok_inj e, refl)
@@ -59,11 +59,11 @@ result_layout column to Unknown k e = absurd (false≢true k)
 
 -- a leaf has a predicate under a known transform only
 pub number_known : (question : Question) (column : PrimitiveType) (transform : Transform) (l p : Predicate ℤ)
-    → project_numbers question column transform l ≡ ok (some p) → known transform ≡ true
+    → project_numbers question column transform l ≡ Ok (some p) → known transform ≡ true
 unfolding project_numbers
 number_known question column transform l p e = (course compare_numbers (number_step column transform question) transform l p e).0
 
-module _ (column to : PrimitiveType) (transform : Transform) (k : known transform ≡ true) (result : result_type transform column ≡ ok to) where
+module _ (column to : PrimitiveType) (transform : Transform) (k : known transform ≡ true) (result : result_type transform column ≡ Ok to) where
   pub lifted_four : lifted column transform ≡ true → layout to ≡ number 4
   lifted_four h = ⊎_elim (λ same. clash h same.1) (λ four. four) (result_layout column to transform k result)
 
@@ -82,20 +82,20 @@ number_values column n is = record {
   Good = InType column;
   reads = λ bs z h e. rw (← ok_inj e, is) (signed_in_range n (le_number bs) (subst Sized is (sized column)));
   fit = λ z h. number_fits (layout column) z h;
-  back = λ z h. rw is (ap ok (signed_bytes_lem n z (rw is at h)));
+  back = λ z h. rw is (ap Ok (signed_bytes_lem n z (rw is at h)));
   tests = λ transform leaf row. rw is;
 }
 
 -- ---- the kind
 -- at most `project_limit` literals come to at most `holds_limit`
-pub number_literals : (question : Question) (column to : PrimitiveType) (transform : Transform) → result_type transform column ≡ ok to → (l p : Predicate ℤ)
-    → Landed (InType column) project_limit l → project_numbers question column transform l ≡ ok (some p) → Landed (InType to) holds_limit p
+pub number_literals : (question : Question) (column to : PrimitiveType) (transform : Transform) → result_type transform column ≡ Ok to → (l p : Predicate ℤ)
+    → Landed (InType column) project_limit l → project_numbers question column transform l ≡ Ok (some p) → Landed (InType to) holds_limit p
 number_literals question column to transform result l p h e =
     let x = numbers_land question column to transform l p result h.all e in
     record { all = x.all; count = omega (arith, x.count, h.count) }
 
 unfoldable pub number_kind : (column to : PrimitiveType) (transform : Transform) (n : ℕ) → layout column ≡ number n → known transform ≡ true
-    → result_type transform column ≡ ok to → KindLaws column to transform (numbers column transform n)
+    → result_type transform column ≡ Ok to → KindLaws column to transform (numbers column transform n)
 unfolding number_values transformed_row
 number_kind column to transform n is k result =
     let m = number_result_lem column to transform k result n is in

@@ -1,11 +1,12 @@
 -- Files of older writers over bytes: inclusive predicates lose none of their rows, those of the third question let in none that fails, and where nothing is lifted
 -- the third question is strict. Assumes nothing.
+use Rattle.std.specs.Prelude.{Ok, Err}
 use Prim.Native.Nat.{ℕ}
 use mathlib.Core.Bool.{true, false}
 use mathlib.Core.List.{List}
 use mathlib.Core.Logic.{⊎_elim, ◌↔◌}
 use mathlib.Core.Path.{◌≡◌, refl, ap, fun_ext}
-use Rattle.values.specs.Outcomes.{Res, ok, err, ◌>>=◌}
+use Rattle.values.specs.Outcomes.{Res, ◌>>=◌}
 use Rattle.values.specs.laws.TestLaws.{refuted}
 use Rattle.values.specs.Types.{Layout, number, bytes, layout}
 use Rattle.values.specs.declared.datatypes.PrimitiveType.{PrimitiveType}
@@ -94,7 +95,7 @@ answered_by k column transform leaf project = do
   l ← each_literal k.read leaf
   to ← result_type transform column
   q ← project l
-  ok (mapped (λ p. answer_sheet to (map_literals (k.write to) p)) q)
+  Ok (mapped (λ p. answer_sheet to (map_literals (k.write to) p)) q)
 
 leaf_older : (column : PrimitiveType) (transform : Transform) (leaf : Predicate (List ℕ)) → lifted column transform ≡ false
     → projected_leaf Older column transform leaf ≡ projected_leaf Strict column transform leaf
@@ -116,10 +117,10 @@ older_is_strict s plain = go (sheet project_limit s) refl
     go : (r : Res Sheet) → sheet project_limit s ≡ r
         → (r >>= λ x. projected_leaf Older x.head.column x.head.transform x.leaf)
         ≡ (r >>= λ x. projected_leaf Strict x.head.column x.head.transform x.leaf)
-    go (ok x) e =
+    go (Ok x) e =
         let read = sheet_read_lem project_limit s x e in
         leaf_older x.head.column x.head.transform x.leaf (refuted _ (λ h. plain (x.head, read.head_is, h)))
-    go (err k) e = refl
+    go (Err k) e = refl
 
 pub older_demand : OlderDemand
 older_demand = record { no_older_row_lost = no_older_row_lost; older_is_safe = older_is_safe; older_is_strict = older_is_strict }

@@ -1,6 +1,8 @@
 -- What is stated of files of older writers is about something: for each clause a sheet, a row, a record that it is filed under and an answer sheet that meet what
 -- the clause asks, and a missing row. And 02's "Strict predicates don't": a row that a strict predicate lets in by its other filing, and that fails the leaf. What
 -- is public here serves `filedemand` and `filterdemand` too. Assumes nothing.
+use Rattle.std.specs.Prelude.{Ok}
+use Rattle.values.specs.Outcomes.{Res}
 use Prim.Native.Nat.{ℕ}
 use mathlib.Core.Bool.{true, true≢false, false≢true}
 use mathlib.Core.List.{List, [], ◌∷◌}
@@ -10,7 +12,6 @@ use lib.IntN.{ℤ, pos, negsuc}
 use Rattle.values.specs.laws.IntLaws.{lt_true}
 use Rattle.values.specs.laws.OutcomeLaws.{ok_inj}
 use Rattle.values.specs.Order.{compare_numbers}
-use Rattle.values.specs.Outcomes.{ok}
 use Rattle.values.specs.Transforms.{transform_of}
 use Rattle.values.specs.Types.{in_type}
 use Rattle.values.specs.declared.datatypes.PrimitiveType.TheVariants.{Int, Date}
@@ -123,7 +124,7 @@ pub older_is_strict_asks : (s : List ℕ) × (Lifts s → ⊥)
 unfolding head transform_of
 older_is_strict_asks = (below300, λ h. not_lifted h.0 h.1 h.2)
   where
-    not_lifted : (x : Head) → ok (record { column = Int; transform = Truncate 10 }) ≡ ok x → lifted x.column x.transform ≡ true → ⊥
+    not_lifted : (x : Head) → ◌≡◌ {A = Res Head} (Ok (record { column = Int; transform = Truncate 10 })) (Ok x) → lifted x.column x.transform ≡ true → ⊥
     not_lifted x e h = false≢true (rw (← ok_inj e) at h)
 
 pub strict_lets_one_in : (s q v f : List ℕ) × Filed s f v × Returns Strict s q × Accepts q f × (Accepts s v → ⊥)

@@ -1,5 +1,6 @@
 -- What the values of one type owe, of whatever kind they are: they are read from contents, written to them and read back, and the holds-test goes by them.
 -- Then what is read and what is written of rows and leaves. Assumes nothing.
+use Rattle.std.specs.Prelude.{Ok}
 use Prim.Native.Nat.{ℕ, suc, ◌*◌, ◌≤◌}
 use native.Mathlib.Omega.{arith}
 use mathlib.Core.Bool.{true}
@@ -7,7 +8,7 @@ use mathlib.Core.List.{List, [], ◌∷◌, map}
 use mathlib.Core.Path.{◌≡◌, refl, sym, ap, subst, ◌∙◌}
 use lib.ListN.{length, length-map}
 use Rattle.values.specs.code.Places.{AllOf}
-use Rattle.values.specs.Outcomes.{Res, ok, each, Row, missing, present}
+use Rattle.values.specs.Outcomes.{Res, each, Row, missing, present}
 use Rattle.values.specs.laws.OutcomeLaws.{ok_inj, going, gone, each_put, each_length, each_all}
 use Rattle.values.specs.Types.{layout, fits}
 use Rattle.values.specs.declared.datatypes.PrimitiveType.{PrimitiveType}
@@ -35,22 +36,22 @@ sheet_of column transform leaf = record { head = record { column = column; trans
 pub record ValueLaws {A : Type 0} (column : PrimitiveType) (read : List ℕ → Res A) (write : A → List ℕ) (by : Tests A) : Type 1 where
   -- a value that a record of the type can hold
   pub Good : A → Type 0
-  pub reads : (bs : List ℕ) (x : A) → fits (layout column) (length bs) ≡ true → read bs ≡ ok x → Good x
+  pub reads : (bs : List ℕ) (x : A) → fits (layout column) (length bs) ≡ true → read bs ≡ Ok x → Good x
   pub fit : (x : A) → Good x → fits (layout column) (length (write x)) ≡ true
-  pub back : (x : A) → Good x → read (write x) ≡ ok x
+  pub back : (x : A) → Good x → read (write x) ≡ Ok x
   pub tests : (transform : Transform) (leaf : Predicate (List ℕ)) (row : Row (List ℕ))
       → tested_sheet (sheet_of column transform leaf) row ≡ tested by read leaf row
 
 -- ---- the literals of a leaf are read in their turn
-literals_each : {A B : Type 0} (read : A → Res B) (leaf : Predicate A) (l : Predicate B) → each_literal read leaf ≡ ok l
-    → each read (literals_in leaf) ≡ ok (literals_in l)
-literals_each read (unary o) l e = ap (λ p. ok (literals_in p)) (ok_inj e)
+literals_each : {A B : Type 0} (read : A → Res B) (leaf : Predicate A) (l : Predicate B) → each_literal read leaf ≡ Ok l
+    → each read (literals_in leaf) ≡ Ok (literals_in l)
+literals_each read (unary o) l e = ap (λ p. Ok (literals_in p)) (ok_inj e)
 literals_each read (test (binary o b)) l e =
     let a = gone (read b) _ e in
-    each_put read b [] a.1 refl ∙ ap (λ p. ok (literals_in p)) (ok_inj a.2)
+    each_put read b [] a.1 refl ∙ ap (λ p. Ok (literals_in p)) (ok_inj a.2)
 literals_each read (test (set o bs)) l e =
     let a = gone (each read bs) _ e in
-    a.1 ∙ ap (λ p. ok (literals_in p)) (ok_inj a.2)
+    a.1 ∙ ap (λ p. Ok (literals_in p)) (ok_inj a.2)
 
 literals_map : {A B : Type 0} (f : A → B) (p : Predicate A) → literals_in (map_literals f p) ≡ map f (literals_in p)
 literals_map f (unary o) = refl
@@ -59,12 +60,12 @@ literals_map f (test (set o ls)) = refl
 
 module _ {A : Type 0} {column : PrimitiveType} {read : List ℕ → Res A} {write : A → List ℕ} {by : Tests A} (law : ValueLaws column read write by) where
   -- ---- what is read
-  pub row_good : (raw : Row (List ℕ)) (r : Row A) → FitsRow column raw → read_row read raw ≡ ok r → OfPresent law.Good r
+  pub row_good : (raw : Row (List ℕ)) (r : Row A) → FitsRow column raw → read_row read raw ≡ Ok r → OfPresent law.Good r
   row_good missing r h e = subst (OfPresent law.Good) (ok_inj e) tt
   row_good (present bs) r h e = let a = gone (read bs) _ e in subst (OfPresent law.Good) (ok_inj a.2) (law.reads bs a.0 h a.1)
 
   pub leaf_good : (most : ℕ) (leaf : Predicate (List ℕ)) (l : Predicate A) → Fits column (literals_in leaf) → length (literals_in leaf) ≤ most
-      → each_literal read leaf ≡ ok l → Landed law.Good most l
+      → each_literal read leaf ≡ Ok l → Landed law.Good most l
   leaf_good most leaf l h few e =
       let each_is = literals_each read leaf l e in
       record {
@@ -83,11 +84,11 @@ module _ {A : Type 0} {column : PrimitiveType} {read : List ℕ → Res A} {writ
   row_fits missing h = tt
   row_fits (present x) h = law.fit x h
 
-  pub row_back : (r : Row A) → OfPresent law.Good r → read_row read (map_row write r) ≡ ok r
+  pub row_back : (r : Row A) → OfPresent law.Good r → read_row read (map_row write r) ≡ Ok r
   row_back missing h = refl
   row_back (present x) h = rw (law.back x h)
 
-  pub record_back : (r : Row A) → OfPresent law.Good r → value (layout column) (row_record r) ≡ ok (map_row write r)
+  pub record_back : (r : Row A) → OfPresent law.Good r → value (layout column) (row_record r) ≡ Ok (map_row write r)
   record_back r h = value_back column (map_row write r) (row_fits r h)
 
   -- the records of two values tell them apart
@@ -100,17 +101,17 @@ module _ {A : Type 0} {column : PrimitiveType} {read : List ℕ → Res A} {writ
   each_fits [] h = tt
   each_fits (x ∷ xs) h = (law.fit x h.0, each_fits xs h.1)
 
-  each_back : (xs : List A) → AllOf law.Good xs → each read (map write xs) ≡ ok xs
+  each_back : (xs : List A) → AllOf law.Good xs → each read (map write xs) ≡ Ok xs
   each_back [] h = refl
   each_back (x ∷ xs) h = each_put read (write x) (map write xs) (law.back x h.0) (each_back xs h.1)
 
-  leaf_back : (p : Predicate A) → AllOf law.Good (literals_in p) → each_literal read (map_literals write p) ≡ ok p
+  leaf_back : (p : Predicate A) → AllOf law.Good (literals_in p) → each_literal read (map_literals write p) ≡ Ok p
   leaf_back (unary o) h = refl
   leaf_back (test (binary o x)) h = rw (law.back x h.0)
   leaf_back (test (set o xs)) h = rw (each_back xs h)
 
   sheet_back : (p : Predicate A) → Landed law.Good holds_limit p
-      → sheet holds_limit (predicate_sheet p) ≡ ok (sheet_of column Identity (map_literals write p))
+      → sheet holds_limit (predicate_sheet p) ≡ Ok (sheet_of column Identity (map_literals write p))
   sheet_back p h =
       let are = literals_map write p in
       answer_back holds_limit column (map_literals write p) (omega arith) (rw are (each_fits (literals_in p) h.all))
@@ -123,13 +124,13 @@ module _ {A : Type 0} {column : PrimitiveType} {read : List ℕ → Res A} {writ
 
   -- ---- the holds-test of a sheet and a record that are read, and of those that are written
   pub holds_read : (s v : List ℕ) (transform : Transform) (leaf : Predicate (List ℕ)) (raw : Row (List ℕ)) (l : Predicate A) (r : Row A)
-      → sheet holds_limit s ≡ ok (sheet_of column transform leaf) → value (layout column) v ≡ ok raw
-      → each_literal read leaf ≡ ok l → read_row read raw ≡ ok r → holds_test s v ≡ ok (holds by l r)
+      → sheet holds_limit s ≡ Ok (sheet_of column transform leaf) → value (layout column) v ≡ Ok raw
+      → each_literal read leaf ≡ Ok l → read_row read raw ≡ Ok r → holds_test s v ≡ Ok (holds by l r)
   unfolding holds_test
   holds_read s v transform leaf raw l r a b e d = going _ a ∙ going _ b ∙ law.tests transform leaf raw ∙ going _ e ∙ going _ d
 
   pub holds_written : (p : Predicate A) (r : Row A) → Landed law.Good holds_limit p → OfPresent law.Good r
-      → holds_test (predicate_sheet p) (row_record r) ≡ ok (holds by p r)
+      → holds_test (predicate_sheet p) (row_record r) ≡ Ok (holds by p r)
   holds_written p r h k =
       holds_read (predicate_sheet p) (row_record r) Identity (map_literals write p) (map_row write r) p r
       (sheet_back p h) (record_back r k) (leaf_back p h.all) (row_back r k)

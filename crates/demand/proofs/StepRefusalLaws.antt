@@ -1,5 +1,6 @@
 -- Under a transform that has a result type, steps refuse with 6 and 8, and with 7 under Unknown alone: what holds of those holds of every refusal of a transform
 -- and of a projection. Assumes nothing.
+use Rattle.std.specs.Prelude.{Ok, Err}
 use Prim.Native.Nat.{ℕ}
 use mathlib.Core.Bool.{true, not, ◌||◌, false≢true}
 use mathlib.Core.List.{List}
@@ -7,7 +8,7 @@ use mathlib.Core.Path.{◌≡◌, refl, ap}
 use lib.Dec.{ltb, leb, eqb}
 use lib.IntN.{ℤ, suc_ℤ, pred_ℤ}
 use Rattle.values.specs.Order.{compare_numbers, compare_bytes}
-use Rattle.values.specs.Outcomes.{Res, ok, err, each, Row, missing, present, ◌>>=◌}
+use Rattle.values.specs.Outcomes.{Res, each, Row, missing, present, ◌>>=◌}
 use Rattle.values.specs.laws.OutcomeLaws.{passed}
 use Rattle.values.specs.laws.TestLaws.{clash}
 use Rattle.values.specs.Transforms.{width_of}
@@ -17,7 +18,7 @@ use Rattle.values.specs.declared.datatypes.PrimitiveType.TheVariants.{Int, Long,
 use Rattle.values.specs.declared.datatypes.PrimitiveType.TheVariants.{Timestamp, Timestamptz, TimestampNs, TimestamptzNs}
 use Rattle.values.specs.declared.error.ErrorKind.{ErrorKind}
 use Rattle.values.specs.declared.error.ErrorKind.TheVariants.{NoResultType, DataInvalid, FeatureUnsupported, Overflow}
-use Rattle.values.specs.declared.order.Ordering.{Ordering}
+use Rattle.std.specs.declared.cmp.Ordering.{Ordering}
 use Rattle.values.specs.declared.transform.Transform.{Transform}
 use Rattle.values.specs.declared.transform.Transform.TheVariants.{Identity, Truncate, Year, Month, Day, Hour, Void, Unknown}
 use Rattle.transform.specs.Calendar.{in_calendar, year_of, month_of}
@@ -39,7 +40,7 @@ use Rattle.projection.specs.declared.question.Question.TheVariants.{Inclusive, S
 use Rattle.sheet.specs.laws.RefusalLaws.{Only, only_ok, only_err, only_bind, only_need, only_cond, only_each}
 use Rattle.answers.specs.laws.BytesLeafLaws.{no_time, not_listed}
 
-listed : (types : List PrimitiveType) (column ty : PrimitiveType) {to : PrimitiveType} → for_types types column ty ≡ ok to → is_one_of column types ≡ true
+listed : (types : List PrimitiveType) (column ty : PrimitiveType) {to : PrimitiveType} → for_types types column ty ≡ Ok to → is_one_of column types ≡ true
 listed types column ty e = (passed (is_one_of column types) NoResultType _ e).0
 
 module _ {P : ErrorKind → Type 0} (six : P DataInvalid) (eight : P Overflow) where
@@ -84,7 +85,7 @@ module _ {P : ErrorKind → Type 0} (six : P DataInvalid) (eight : P Overflow) w
 
   module _ (T : List ℕ → Res (List ℕ)) (count : List ℕ → ℕ) (w : ℕ) (h : (l : List ℕ) → Only P (T l)) where
     length_only : (n : ℕ) (whole short : Projected (Test (List ℕ))) (long : Step) → Only P long → Only P (by_length n w whole short long)
-    length_only n whole short long k = only_cond (eqb n w) (ok whole) _ only_ok (only_cond (ltb n w) (ok short) long only_ok k)
+    length_only n whole short long k = only_cond (eqb n w) (Ok whole) _ only_ok (only_cond (ltb n w) (Ok short) long only_ok k)
 
     inclusive_bytes_lem : (column : PrimitiveType) (x : Test (List ℕ)) → Only P (inclusive_bytes column T count w x)
     inclusive_bytes_lem column (binary less_than l) = literal_only less_than_or_eq (T l) (h l)
@@ -116,10 +117,10 @@ module _ {P : ErrorKind → Type 0} (six : P DataInvalid) (eight : P Overflow) w
     strict_bytes_lem (set not_in ls) = set_only compare_bytes not_in T h ls
 
   -- ---- T, of a transform with steps: Void alone gives missing
-  value_only : {B : Type 0} (r : Res (Row B)) → Only P r → (r ≡ ok missing → ⊥) → Only P (r >>= value_in)
-  value_only (ok missing) h never = absurd (never refl)
-  value_only (ok (present t)) h never = only_ok
-  value_only (err e) h never = only_err (h.only e refl)
+  value_only : {B : Type 0} (r : Res (Row B)) → Only P r → (r ≡ Ok missing → ⊥) → Only P (r >>= value_in)
+  value_only (Ok missing) h never = absurd (never refl)
+  value_only (Ok (present t)) h never = only_ok
+  value_only (Err e) h never = only_err (h.only e refl)
 
   -- ---- transforms of numbers
   -- days and hours, of the columns that have them
@@ -153,7 +154,7 @@ module _ {P : ErrorKind → Type 0} (six : P DataInvalid) (eight : P Overflow) w
     calendar_only : (count : ℤ → ℤ) (v : ℤ) → is_one_of column with_days ≡ true → Only P (by_calendar count column v)
     calendar_only count v h = let k = days column v h in only_bind (day_of column v) _ k.0 (λ d. only_need (in_calendar d) _ _ k.1 only_ok)
 
-    pub number_only : (transform : Transform) → (transform ≡ Unknown → P FeatureUnsupported) → result_type transform column ≡ ok to → (v : ℤ)
+    pub number_only : (transform : Transform) → (transform ≡ Unknown → P FeatureUnsupported) → result_type transform column ≡ Ok to → (v : ℤ)
         → Only P (transform_number column transform v)
     unfolding result_type transform_number
     number_only Identity seven e v = only_ok
@@ -168,7 +169,7 @@ module _ {P : ErrorKind → Type 0} (six : P DataInvalid) (eight : P Overflow) w
     number_only Unknown seven e v = only_err (seven refl)
 
     -- ---- transforms of byte strings
-    pub bytes_only : (n : ℕ) → layout column ≡ bytes n → (transform : Transform) → (transform ≡ Unknown → P FeatureUnsupported) → result_type transform column ≡ ok to
+    pub bytes_only : (n : ℕ) → layout column ≡ bytes n → (transform : Transform) → (transform ≡ Unknown → P FeatureUnsupported) → result_type transform column ≡ Ok to
         → (s : List ℕ) → Only P (transform_bytes column transform s)
     unfolding result_type transform_bytes
     bytes_only n is Identity seven e s = only_ok
@@ -197,7 +198,7 @@ module _ {P : ErrorKind → Type 0} (six : P DataInvalid) (eight : P Overflow) w
     by_transform_lem Void seven h leaf = only_ok
     by_transform_lem Unknown seven h leaf = only_err (seven refl)
 
-  module _ (column to : PrimitiveType) (transform : Transform) (seven : transform ≡ Unknown → P FeatureUnsupported) (e : result_type transform column ≡ ok to) where
+  module _ (column to : PrimitiveType) (transform : Transform) (seven : transform ≡ Unknown → P FeatureUnsupported) (e : result_type transform column ≡ Ok to) where
     numbers_under : by_steps transform ≡ true → (l : ℤ) → Only P (number_under column transform l)
     numbers_under h l =
         value_only (transform_number column transform l) (number_only column to transform seven e l) (λ m. clash h (ap by_steps (number_missing column transform l m)))

@@ -1,9 +1,10 @@
 -- 7 is Unknown's alone, over the bytes of the routines: reading refuses with 3 and 4, a pair without a result type with 5, steps with 6 and 8. Assumes nothing.
+use Rattle.std.specs.Prelude.{Ok}
 use Prim.Native.Nat.{ℕ}
 use mathlib.Core.Bool.{not, ◌||◌, true≢false}
 use mathlib.Core.List.{List}
 use mathlib.Core.Path.{◌≡◌, refl, sym, ap, ◌∙◌}
-use Rattle.values.specs.Outcomes.{Res, ok, need, ◌>>◌, each, Row, missing, present}
+use Rattle.values.specs.Outcomes.{Res, need, ◌>>◌, each, Row, missing, present}
 use Rattle.values.specs.laws.OutcomeLaws.{ok_inj, gone}
 use Rattle.values.specs.laws.TypesLaws.{transform_code, transform_numbers}
 use Rattle.values.specs.Transforms.{transform_of}
@@ -93,9 +94,9 @@ Unknowns transform = Seven (transform ≡ Unknown)
 module _ (column : PrimitiveType) (transform : Transform) where
   pub record KindRefusals {A B : Type 0} (k : Kind A B) : Type 0 where
     pub reads : (bs : List ℕ) → Only (Unknowns transform) (k.read bs)
-    pub projects : (to : PrimitiveType) → result_type transform column ≡ ok to → (question : Question) (leaf : Predicate A)
+    pub projects : (to : PrimitiveType) → result_type transform column ≡ Ok to → (question : Question) (leaf : Predicate A)
         → Only (Unknowns transform) (k.project question leaf)
-    pub parts : (to : PrimitiveType) → result_type transform column ≡ ok to → (row : Row A) → Only (Unknowns transform) (k.partition row)
+    pub parts : (to : PrimitiveType) → result_type transform column ≡ Ok to → (row : Row A) → Only (Unknowns transform) (k.partition row)
 
   module _ {A B : Type 0} {k : Kind A B} (kind : KindRefusals k) where
     projected_only : (question : Question) (leaf : Predicate (List ℕ)) → Only (Unknowns transform) (projected k column transform question leaf)
@@ -171,7 +172,7 @@ module _ (column : PrimitiveType) (transform : Transform) where
 -- ---- the routines
 
 -- a head with Unknown was read from a 7
-pub head_unknown : (type transform width : ℕ) (h : Head) → head type transform width ≡ ok h → h.transform ≡ Unknown → transform ≡ unknown
+pub head_unknown : (type transform width : ℕ) (h : Head) → head type transform width ≡ Ok h → h.transform ≡ Unknown → transform ≡ unknown
 unfolding head
 head_unknown type transform width h e is =
     let t = gone (find types type) _ e in

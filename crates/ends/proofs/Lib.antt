@@ -1,5 +1,4 @@
 -- Lemmas that several proofs share.
-pub mod Searches
 pub mod Scans
 pub mod BetweenArms
 pub mod TextArms

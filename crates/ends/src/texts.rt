@@ -1,75 +1,51 @@
-// Whether the ends of a file rule out that a byte string between them meets an operator, by document 02's table.
-ghost use Rattle.std.specs.Prelude.{◌≡◌, true, false};
+// Whether the ends of a file rule out that a byte string between them meets an operator, by document 02's table. Of numbers something else is asked, whether some
+// number between the ends meets it, so that the two stand apart.
+ghost use Rattle.std.specs.Prelude.{◌≡◌, false};
 ghost use Rattle.values.specs.SomeEvery.{some, every};
 ghost use Rattle.values.specs.Order.{compare_bytes, is_less};
-ghost use Rattle.values.specs.Types.{layout};
 ghost use Rattle.expr.specs.Operators.{by_arity};
-ghost use Rattle.expr.specs.code.OperatorAnswers.{takes};
-ghost use Rattle.sheet.specs.code.ReadAnswers.{Placed, contents_at};
+ghost use Rattle.sheet.specs.code.SheetAnswers.{contents_of};
+ghost use Rattle.meets.specs.code.Leaves.{content_leaf};
 ghost use Rattle.summary.specs.Summaries.{◌to◌};
 ghost use Rattle.ends.specs.RuledOut.{outside, both_are, ruled_out};
-ghost use Rattle.ends.specs.code.EndAnswers.{ruled_out_one, content_leaf};
+ghost use Rattle.ends.specs.code.EndAnswers.{ruled_out_one};
 
 use expr::operator::PredicateOperator;
 use expr::test::bytes_meets;
 use meets::literals::bytes_among;
-use sheet::literal::{content_of, record_of};
+use sheet::literals::Literals;
 use sheet::sheet::Sheet;
-use values::datatypes::PrimitiveType;
-use values::order::{Ordering, compare_bytes, is_less, starts_with};
+use values::order::{is_less, starts_with};
 
 // Whether a byte string lies outside the ends.
 fn is_outside(low: &[u8], high: &[u8], l: &[u8]) -> bool
     ensures { result ≡ outside low.now high.now l.now }
 {
-    if is_less(l, low) {
-        return true;
-    }
-    is_less(high, l)
+    is_less(l, low) || is_less(high, l)
 }
 
-// Whether every literal in the first count records lies outside the ends.
-fn all_outside(
-    s: &[u8],
-    records: &[u16],
-    count: usize,
-    column: PrimitiveType,
-    low: &[u8],
-    high: &[u8],
-) -> bool
-    requires { Placed (layout column) s.now records.now count }
-    ensures { result ≡ every (outside low.now high.now) (contents_at s.now records.now count) }
+// Whether every literal lies outside the ends.
+fn all_outside(literals: Literals, low: &[u8], high: &[u8]) -> bool
+    ensures { result ≡ every (outside low.now high.now) (contents_of literals.entry) }
 {
-    let mut i = 0;
-    while i < count {
-        if !is_outside(low, high, content_of(s, record_of(records, i))) {
+    for i in 0..literals.len() {
+        if !is_outside(low, high, literals.content(i)) {
             return false;
         }
-        i += 1;
     }
     true
 }
 
 // Whether both ends are one and the same literal.
-fn both_among(
-    s: &[u8],
-    records: &[u16],
-    count: usize,
-    column: PrimitiveType,
-    low: &[u8],
-    high: &[u8],
-) -> bool
-    requires { Placed (layout column) s.now records.now count }
-    ensures { result ≡ some (both_are low.now high.now) (contents_at s.now records.now count) }
+#[tactic(auto, using(crate::proofs::TextArms::same_ends, crate::proofs::TextArms::other_ends))]
+fn both_among(literals: Literals, low: &[u8], high: &[u8]) -> bool
+    ensures { result ≡ some (both_are low.now high.now) (contents_of literals.entry) }
 {
-    if let Ordering::Equal = compare_bytes(low, high) {
-        bytes_among(s, records, count, column, low)
-    } else {
-        false
-    }
+    low == high && bytes_among(literals, low)
 }
 
 // Whether the ends rule out an operator that takes one literal. But for Eq and StartsWith they do where neither end meets it.
+#[tactic(auto, using(crate::proofs::TextArms::lowest_meets, crate::proofs::TextArms::highest_decides))]
 fn rules_out_one(operator: PredicateOperator, low: &[u8], high: &[u8], l: &[u8]) -> bool
     requires { is_less (compare_bytes high.now low.now) ≡ false }
     ensures { result ≡ ruled_out_one (by_arity operator) low.now high.now l.now }
@@ -77,41 +53,22 @@ fn rules_out_one(operator: PredicateOperator, low: &[u8], high: &[u8], l: &[u8])
     match operator {
         PredicateOperator::Eq => is_outside(low, high, l),
         PredicateOperator::StartsWith => {
-            if is_less(high, l) {
-                return true;
-            }
-            if is_less(l, low) {
-                return !starts_with(low, l);
-            }
-            false
+            is_less(high, l) || is_less(l, low) && !starts_with(low, l)
         }
-        _ => {
-            if bytes_meets(operator, low, l) {
-                return false;
-            }
-            !bytes_meets(operator, high, l)
-        }
+        _ => !bytes_meets(operator, low, l) && !bytes_meets(operator, high, l),
     }
 }
 
-// Whether the ends rule out the sheet's operator and literals.
-pub fn rules_out(x: Sheet, s: &[u8], records: &[u16], low: &[u8], high: &[u8]) -> bool
-    requires placed { Placed (layout x.head.column) s.now records.now x.count }
-    requires count_value { takes (by_arity x.head.operator) x.count ≡ true }
-    requires low_value { is_less (compare_bytes high.now low.now) ≡ false }
-    ensures { result ≡ ruled_out (content_leaf x s.now records.now) (low.now to high.now) }
+// Whether the ends rule out a sheet's operator with its literals.
+pub fn rules_out(x: &Sheet, low: &[u8], high: &[u8]) -> bool
+    requires { is_less (compare_bytes high.now low.now) ≡ false }
+    ensures { result ≡ ruled_out (content_leaf x.now) (low.now to high.now) }
 {
-    let head = x.head;
-    let operator = head.operator;
-    let column = head.column;
-    let count = x.count;
-    match operator {
-        PredicateOperator::IsNull => true,
-        PredicateOperator::NotNull => false,
-        PredicateOperator::IsNan => true,
-        PredicateOperator::NotNan => false,
-        PredicateOperator::In => all_outside(s, records, count, column, low, high),
-        PredicateOperator::NotIn => both_among(s, records, count, column, low, high),
-        _ => rules_out_one(operator, low, high, content_of(s, record_of(records, 0))),
+    match x.operator {
+        PredicateOperator::IsNull | PredicateOperator::IsNan => true,
+        PredicateOperator::NotNull | PredicateOperator::NotNan => false,
+        PredicateOperator::In => all_outside(x.literals, low, high),
+        PredicateOperator::NotIn => both_among(x.literals, low, high),
+        _ => rules_out_one(x.operator, low, high, x.literals.content(0)),
     }
 }

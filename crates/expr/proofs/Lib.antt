@@ -1,3 +1,3 @@
 -- Lemmas that several proofs of this crate share.
-pub mod OperatorArms
 pub mod NumberTests
+pub mod Inserts

@@ -12,7 +12,7 @@ use Rattle.values.specs.laws.IntLaws.{le_true, le_false, lt_z_yes, lt_z_not}
 use Rattle.values.specs.Order.{compare_numbers, is_less, is_equal}
 use Rattle.values.specs.laws.OrderLaws.{number_equal, is_equal_lem}
 use Rattle.values.specs.laws.TestLaws.{same_test}
-use Rattle.values.specs.declared.order.Ordering.TheVariants.{Less, Equal, Greater}
+use Rattle.std.specs.declared.cmp.Ordering.TheVariants.{Less, Equal, Greater}
 use Rattle.expr.specs.code.OperatorAnswers.{meets_one}
 use Rattle.expr.specs.Holds.{number_tests}
 use Rattle.expr.specs.Operators.{by_arity}

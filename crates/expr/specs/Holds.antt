@@ -4,7 +4,7 @@ use Rattle.std.specs.Prelude.{ℕ, Bool, true, false, not, List, [], ◌≡◌, 
 use Rattle.values.specs.Outcomes.{Row, missing, present}
 use Rattle.values.specs.Order.{compare_numbers, compare_bytes, starts_with, is_less, is_equal}
 use Rattle.values.specs.Ascending.{elem}
-use Rattle.values.specs.declared.order.Ordering.{Ordering}
+use Rattle.std.specs.declared.cmp.Ordering.{Ordering}
 use Rattle.expr.specs.Operators as operators
 use Rattle.expr.specs.Predicates.{Test, binary, set, Predicate, unary, test, by_arity_in}
 

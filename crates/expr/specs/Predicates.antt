@@ -1,6 +1,6 @@
 -- A leaf, which is a predicate on one column: an operator with as many literals as it takes, of values of any kind `A`. Assumes nothing.
-use Rattle.std.specs.Prelude.{List, [], ◌∷◌}
-use Rattle.values.specs.Outcomes.{Res, ok, err}
+use Rattle.std.specs.Prelude.{List, [], ◌∷◌, Ok, Err}
+use Rattle.values.specs.Outcomes.{Res}
 use Rattle.values.specs.declared.error.ErrorKind.TheVariants.{Malformed}
 use Rattle.expr.specs.Operators.{Unary, Binary, SetOperator, Operator, none, one, many, by_arity, operator_of}
 use Rattle.expr.specs.declared.operator.PredicateOperator.{PredicateOperator}
@@ -29,12 +29,12 @@ literals_in (test (set o ls)) = ls
 
 -- the predicate of an operator and literals: 3 where they are too few or too many
 abbrev pub with_literals : {A : Type 0} → Operator → List A → Res (Predicate A)
-with_literals (none o) [] = ok (unary o)
-with_literals (none o) (l ∷ ls) = err Malformed
-with_literals (one o) [] = err Malformed
-with_literals (one o) (l ∷ []) = ok (test (binary o l))
-with_literals (one o) (l ∷ k ∷ ls) = err Malformed
-with_literals (many o) ls = ok (test (set o ls))
+with_literals (none o) [] = Ok (unary o)
+with_literals (none o) (l ∷ ls) = Err Malformed
+with_literals (one o) [] = Err Malformed
+with_literals (one o) (l ∷ []) = Ok (test (binary o l))
+with_literals (one o) (l ∷ k ∷ ls) = Err Malformed
+with_literals (many o) ls = Ok (test (set o ls))
 
 abbrev pub predicate : {A : Type 0} → PredicateOperator → List A → Res (Predicate A)
 predicate operator literals = with_literals (by_arity operator) literals

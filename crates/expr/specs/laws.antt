@@ -2,3 +2,4 @@
 pub mod PredicateLaws
 pub mod HoldsLaws
 pub mod EqualityLaws
+pub mod OrderLaws

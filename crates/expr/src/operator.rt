@@ -2,7 +2,7 @@
 ghost use Rattle.std.specs.Prelude.{◌≡◌};
 ghost use Rattle.values.specs.Numbered.{find};
 ghost use Rattle.expr.specs.Operators.{operators, operator_number, by_arity};
-ghost use Rattle.expr.specs.code.OperatorAnswers.{negated, takes_none, takes_many, operator_result};
+ghost use Rattle.expr.specs.code.OperatorAnswers.{negated, takes_none, takes_many};
 
 use values::error::ErrorKind;
 
@@ -11,15 +11,15 @@ pub const PROJECT_LIMIT: usize = 64;
 
 pub const HOLDS_LIMIT: usize = 128;
 
-#[derive(Clone, Copy)]
+#[derive(Clone, Copy, PartialEq, Eq)]
 pub enum PredicateOperator {
     // Unary operators.
-    IsNull,
+    IsNull = 101,
     NotNull,
     IsNan,
     NotNan,
     // Binary operators.
-    LessThan,
+    LessThan = 201,
     LessThanOrEq,
     GreaterThan,
     GreaterThanOrEq,
@@ -28,84 +28,64 @@ pub enum PredicateOperator {
     StartsWith,
     NotStartsWith,
     // Set operators.
-    In,
+    In = 301,
     NotIn,
 }
 
-// An operator, or why there is none.
-#[derive(Clone, Copy)]
-pub enum OperatorResult {
-    Ok(PredicateOperator),
-    Err(ErrorKind),
+// The operator with one of the crate's codes.
+impl TryFrom<u16> for PredicateOperator {
+    type Error = ErrorKind;
+
+    ghost try_from_gives = { λ n found. found ≡ find operators n };
+
+    fn try_from(number: u16) -> Result<PredicateOperator, ErrorKind> {
+        match number {
+            101 => Ok(PredicateOperator::IsNull),
+            102 => Ok(PredicateOperator::NotNull),
+            103 => Ok(PredicateOperator::IsNan),
+            104 => Ok(PredicateOperator::NotNan),
+            201 => Ok(PredicateOperator::LessThan),
+            202 => Ok(PredicateOperator::LessThanOrEq),
+            203 => Ok(PredicateOperator::GreaterThan),
+            204 => Ok(PredicateOperator::GreaterThanOrEq),
+            205 => Ok(PredicateOperator::Eq),
+            206 => Ok(PredicateOperator::NotEq),
+            207 => Ok(PredicateOperator::StartsWith),
+            208 => Ok(PredicateOperator::NotStartsWith),
+            301 => Ok(PredicateOperator::In),
+            302 => Ok(PredicateOperator::NotIn),
+            _ => Err(ErrorKind::Malformed),
+        }
+    }
+}
+
+impl From<PredicateOperator> for u16 {
+    ghost from_gives = { λ operator n. n ≡ operator_number operator };
+
+    fn from(operator: PredicateOperator) -> u16 {
+        operator as u16
+    }
 }
 
 impl PredicateOperator {
-    // The operator with one of the crate's codes.
-    pub fn from_number(number: u16) -> OperatorResult
-        ensures { result ≡ operator_result (find operators number) }
-    {
-        match number {
-            101 => OperatorResult::Ok(PredicateOperator::IsNull),
-            102 => OperatorResult::Ok(PredicateOperator::NotNull),
-            103 => OperatorResult::Ok(PredicateOperator::IsNan),
-            104 => OperatorResult::Ok(PredicateOperator::NotNan),
-            201 => OperatorResult::Ok(PredicateOperator::LessThan),
-            202 => OperatorResult::Ok(PredicateOperator::LessThanOrEq),
-            203 => OperatorResult::Ok(PredicateOperator::GreaterThan),
-            204 => OperatorResult::Ok(PredicateOperator::GreaterThanOrEq),
-            205 => OperatorResult::Ok(PredicateOperator::Eq),
-            206 => OperatorResult::Ok(PredicateOperator::NotEq),
-            207 => OperatorResult::Ok(PredicateOperator::StartsWith),
-            208 => OperatorResult::Ok(PredicateOperator::NotStartsWith),
-            301 => OperatorResult::Ok(PredicateOperator::In),
-            302 => OperatorResult::Ok(PredicateOperator::NotIn),
-            _ => OperatorResult::Err(ErrorKind::Malformed),
-        }
-    }
-
     // Whether the operator takes no literal.
     pub fn is_unary(self) -> bool
         ensures { result ≡ takes_none (by_arity self) }
     {
-        match self {
-            PredicateOperator::IsNull => true,
-            PredicateOperator::NotNull => true,
-            PredicateOperator::IsNan => true,
-            PredicateOperator::NotNan => true,
-            _ => false,
-        }
+        matches!(
+            self,
+            PredicateOperator::IsNull
+                | PredicateOperator::NotNull
+                | PredicateOperator::IsNan
+                | PredicateOperator::NotNan
+        )
     }
 
     // Whether the operator takes a set of literals.
     pub fn is_set(self) -> bool
         ensures { result ≡ takes_many (by_arity self) }
     {
-        match self {
-            PredicateOperator::In => true,
-            PredicateOperator::NotIn => true,
-            _ => false,
-        }
-    }
-
-    pub fn number(self) -> u16
-        ensures { result ≡ operator_number self }
-    {
-        match self {
-            PredicateOperator::IsNull => 101,
-            PredicateOperator::NotNull => 102,
-            PredicateOperator::IsNan => 103,
-            PredicateOperator::NotNan => 104,
-            PredicateOperator::LessThan => 201,
-            PredicateOperator::LessThanOrEq => 202,
-            PredicateOperator::GreaterThan => 203,
-            PredicateOperator::GreaterThanOrEq => 204,
-            PredicateOperator::Eq => 205,
-            PredicateOperator::NotEq => 206,
-            PredicateOperator::StartsWith => 207,
-            PredicateOperator::NotStartsWith => 208,
-            PredicateOperator::In => 301,
-            PredicateOperator::NotIn => 302,
-        }
+        matches!(self, PredicateOperator::In | PredicateOperator::NotIn)
     }
 
     // The operator that holds of a present value where this one does not.

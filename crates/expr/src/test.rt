@@ -5,7 +5,8 @@ ghost use Rattle.expr.specs.Holds.{number_tests, bytes_tests, missing_meets};
 ghost use Rattle.expr.specs.code.OperatorAnswers.{meets_one, asks_for};
 
 use crate::operator::PredicateOperator;
-use values::order::{Ordering, compare_bytes, starts_with};
+use std::cmp::Ordering;
+use values::order::{compare_bytes, starts_with};
 
 // Whether a missing value meets an operator, whatever its literals: it counts as different from each.
 pub fn missing_holds(operator: PredicateOperator) -> bool
@@ -55,25 +56,14 @@ pub fn number_meets(operator: PredicateOperator, v: i64, l: i64) -> bool
 fn ordering_meets(operator: PredicateOperator, o: Ordering) -> bool
     ensures { result ≡ asks_for (by_arity operator) o }
 {
-    match o {
-        Ordering::Less => match operator {
-            PredicateOperator::LessThan => true,
-            PredicateOperator::LessThanOrEq => true,
-            PredicateOperator::NotEq => true,
-            _ => false,
-        },
-        Ordering::Equal => match operator {
-            PredicateOperator::LessThanOrEq => true,
-            PredicateOperator::GreaterThanOrEq => true,
-            PredicateOperator::Eq => true,
-            _ => false,
-        },
-        Ordering::Greater => match operator {
-            PredicateOperator::GreaterThan => true,
-            PredicateOperator::GreaterThanOrEq => true,
-            PredicateOperator::NotEq => true,
-            _ => false,
-        },
+    match operator {
+        PredicateOperator::LessThan => o.is_lt(),
+        PredicateOperator::LessThanOrEq => o.is_le(),
+        PredicateOperator::GreaterThan => o.is_gt(),
+        PredicateOperator::GreaterThanOrEq => o.is_ge(),
+        PredicateOperator::Eq => o.is_eq(),
+        PredicateOperator::NotEq => o.is_ne(),
+        _ => false,
     }
 }
 

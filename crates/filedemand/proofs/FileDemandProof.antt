@@ -1,10 +1,10 @@
 -- Files known only by their ends lose no weighing: the clauses of `FileDemand`, for numbers and for texts, and joined to demand 3. Assumes nothing.
+use Rattle.std.specs.Prelude.{Ok}
 use Prim.Native.Nat.{ℕ}
 use native.Mathlib.Omega.{arith}
 use mathlib.Core.List.{List}
 use mathlib.Core.Logic.{◌⊎◌, inl, inr, ⊎_elim, ◌↔◌}
 use mathlib.Core.Path.{◌≡◌, refl, sym, ap, ◌∙◌}
-use Rattle.values.specs.Outcomes.{ok}
 use Rattle.values.specs.laws.OutcomeLaws.{ok_inj}
 use Rattle.values.specs.laws.TestLaws.{clash, refuted}
 use Rattle.values.specs.Types.{Layout, number, bytes, layout, type_number}
@@ -43,14 +43,14 @@ module _ {s f : List ℕ} {x : Verdict} (p : VerdictParts s f x) (n : ℕ) (is :
   skipped e v c met = let r = numbers.covered_row p n is v c in clash (ok_inj (sym r.2 ∙ met)) ((numbers.skip_rows p n is).0 e r.0 r.1)
 
   taken : x ≡ Whole → (v : List ℕ) → Covers f v → Accepts s v
-  taken e v c = let r = numbers.covered_row p n is v c in r.2 ∙ ap ok (((numbers.whole_rows p n is).0 e).1 r.0 r.1)
+  taken e v c = let r = numbers.covered_row p n is v c in r.2 ∙ ap Ok (((numbers.whole_rows p n is).0 e).1 r.0 r.1)
 
   skip_exact : (x ≡ Skip) ↔ NoneAccepted s f
   skip_exact = (
     λ e v b c met. skipped e v c met,
     λ none. (numbers.skip_rows p n is).1 (λ r m.
         let v = numbers.row_covered p n is r m in
-        refuted _ (λ t. none v.0 v.1 v.2 (v.3 ∙ ap ok t))),
+        refuted _ (λ t. none v.0 v.1 v.2 (v.3 ∙ ap Ok t))),
   )
 
   whole_exact : (x ≡ Whole) ↔ (SomeCovered f × AllAccepted s f)

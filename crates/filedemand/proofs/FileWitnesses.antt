@@ -1,5 +1,6 @@
 -- What `files` states is about something: for each clause a sheet, a summary and records that meet what the clause asks; for those on skipping also of a Binary
 -- column; a file without present values; and missing rows in files that are flagged. Assumes nothing.
+use Rattle.std.specs.Prelude.{Ok}
 use Prim.Native.Nat.{ℕ, ◌<◌}
 use native.Mathlib.Omega.{arith}
 use mathlib.Core.Bool.{true, false, false≢true}
@@ -9,7 +10,7 @@ use lib.IntN.{pos}
 use Rattle.values.specs.Characters.{ascii}
 use Rattle.values.specs.Order as order
 use Rattle.values.specs.Order.{compare_numbers, compare_bytes}
-use Rattle.values.specs.Outcomes.{ok, Row, missing, present}
+use Rattle.values.specs.Outcomes.{Row, missing, present}
 use Rattle.values.specs.Transforms.{transform_of}
 use Rattle.values.specs.laws.OutcomeLaws.{ok_inj, gone}
 use Rattle.values.specs.Types.{layout, in_type}
@@ -126,7 +127,7 @@ binary_row : RowOf starts_abc (value_of (ascii "ad")) (value_of (ascii "adx"))
 unfolding transform_value head transform_of value content transformed_row result_type bytes_partition partition transform_bytes first_bytes
 binary_row = refl
 
-binary_verdicts : Skips starts_ab after × (test_summary starts_ab alone ≡ ok Read)
+binary_verdicts : Skips starts_ab after × (test_summary starts_ab alone ≡ Ok Read)
 unfolding test_summary sheet fields head transform_of content value summary judged text_verdict compare_bytes order.starts_with answer_sheet
 binary_verdicts = (refl, refl)
 
@@ -141,7 +142,7 @@ binary_type = refl
 pub binary_skip_loses_none_asks : (s f v : List ℕ) × (type_in s ≡ 10) × Skips s f × Covers f v
 binary_skip_loses_none_asks = (starts_ab, after, value_of (ascii "ad"), binary_type, binary_verdicts.0, binary_held)
 
-pub texts_never_whole_asks : (s f : List ℕ) × (8 < type_in s) × (test_summary s f ≡ ok Read)
+pub texts_never_whole_asks : (s f : List ℕ) × (8 < type_in s) × (test_summary s f ≡ Ok Read)
 texts_never_whole_asks = (starts_ab, alone, omega (arith, binary_type), binary_verdicts.1)
 
 pub binary_no_row_in_skipped_file_asks : (s q f v p : List ℕ) × (type_in s ≡ 10) × RowOf s p v × Covers f p × Returns Inclusive s q × Skips q f
@@ -176,6 +177,6 @@ pub missing_only_rows_in_whole_file_asks : (s q f v p : List ℕ) × (v ≡ blan
 missing_only_rows_in_whole_file_asks =
     (not_five, not_nought, tens, blank, blank, refl, blank_rows.2, flagged_held.1, blank_returned.1, flagged_verdicts.1)
 
-pub flag_decides : (test_summary not_starts_ab (summary_of 10 1 (ascii "ab") (ascii "abz")) ≡ ok Read) × Skips not_starts_ab (summary_of 10 0 (ascii "ab") (ascii "abz"))
+pub flag_decides : (test_summary not_starts_ab (summary_of 10 1 (ascii "ab") (ascii "abz")) ≡ Ok Read) × Skips not_starts_ab (summary_of 10 0 (ascii "ab") (ascii "abz"))
 unfolding test_summary sheet fields head transform_of content value summary judged text_verdict compare_bytes order.starts_with answer_sheet
 flag_decides = (refl, refl)

@@ -9,7 +9,7 @@ use Rattle.values.specs.laws.OrderLaws.{TotalOrder, is_less_lem, not_below, irre
 use Rattle.values.specs.laws.TestLaws.{clash, or_left, or_right, and_both, both_and}
 use Rattle.values.specs.Types.{Layout, number, bytes, layout}
 use Rattle.values.specs.declared.datatypes.PrimitiveType.{PrimitiveType}
-use Rattle.values.specs.declared.order.Ordering.{Ordering}
+use Rattle.std.specs.declared.cmp.Ordering.{Ordering}
 use Rattle.sheet.specs.Values.{number_of, by_layout}
 use Rattle.summary.specs.EndValues.{compare_in, ordered, lies_in, may_hold}
 use Rattle.summary.specs.Summaries.{Ends, none_present, ◌to◌}

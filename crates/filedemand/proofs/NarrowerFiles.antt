@@ -1,4 +1,5 @@
 -- A file that is narrower than a skipped one is skipped too: of numbers, of texts, and of contents of any type. Assumes nothing.
+use Rattle.std.specs.Prelude.{Ok}
 use Prim.Native.Nat.{ℕ}
 use mathlib.Core.Bool.{Bool, true}
 use mathlib.Core.List.{List}
@@ -6,7 +7,7 @@ use mathlib.Core.Path.{◌≡◌, refl, sym, ap, ◌∙◌}
 use lib.IntN.{ℤ}
 use borrow.Author.Tests.{eq-eqb}
 use Rattle.values.specs.Order.{compare_numbers, compare_bytes}
-use Rattle.values.specs.Outcomes.{ok, missing, present}
+use Rattle.values.specs.Outcomes.{missing, present}
 use Rattle.values.specs.laws.IntLaws.{ints}
 use Rattle.values.specs.laws.OrderLaws.{is_at_most}
 use Rattle.values.specs.laws.OutcomeLaws.{passing}
@@ -103,7 +104,7 @@ module _ (column : PrimitiveType) (leaf : Predicate (List ℕ)) (narrow wide : E
   file ends has_missing = record { column = column; ends = ends; has_missing = has_missing }
 
   -- by a leaf of the same type, and of any
-  judged_alike : ends_encoded column narrow ≡ true → judged column leaf (file wide w) ≡ ok Skip → judged column leaf (file narrow n) ≡ ok Skip
+  judged_alike : ends_encoded column narrow ≡ true → judged column leaf (file wide w) ≡ Ok Skip → judged column leaf (file narrow n) ≡ Ok Skip
   judged_alike encoded e =
       let j = judged_as column leaf (file wide w) Skip e in
       judged_checks column leaf (file narrow n)
@@ -111,7 +112,7 @@ module _ (column : PrimitiveType) (leaf : Predicate (List ℕ)) (narrow wide : E
       ∙ passing NotUtf8 _ encoded
       ∙ passing WrongSummary _ (eq-eqb (type_number column) (type_number column) refl)
       ∙ passing WrongSummary _ in_order
-      ∙ ap ok (verdict_narrower j.in_order j.is)
+      ∙ ap Ok (verdict_narrower j.in_order j.is)
 
-  pub judged_narrower : (c : PrimitiveType) → ends_encoded column narrow ≡ true → judged c leaf (file wide w) ≡ ok Skip → judged c leaf (file narrow n) ≡ ok Skip
+  pub judged_narrower : (c : PrimitiveType) → ends_encoded column narrow ≡ true → judged c leaf (file wide w) ≡ Ok Skip → judged c leaf (file narrow n) ≡ Ok Skip
   judged_narrower c encoded e = let same = (judged_as c leaf (file wide w) Skip e).same in rw same (judged_alike encoded (rw same at e))

@@ -1,4 +1,5 @@
 -- Files of numbers: the verdict, by the values that the file may hold, and by the records of such values. Assumes nothing.
+use Rattle.std.specs.Prelude.{Ok}
 use Prim.Native.Nat.{ℕ, ◌<◌}
 use mathlib.Core.Bool.{Bool, true, false}
 use mathlib.Core.List.{List, Memᴰ as Isin}
@@ -6,7 +7,7 @@ use mathlib.Core.Logic.{◌↔◌}
 use mathlib.Core.Path.{◌≡◌, refl, sym, ap, subst, ◌∙◌}
 use lib.IntN.{ℤ}
 use Rattle.values.specs.Order.{compare_numbers}
-use Rattle.values.specs.Outcomes.{ok, Row, missing, present}
+use Rattle.values.specs.Outcomes.{Row, missing, present}
 use Rattle.values.specs.laws.IntLaws.{ints}
 use Rattle.values.specs.laws.OutcomeLaws.{ok_inj}
 use Rattle.values.specs.laws.RangeLaws.{range_between, between_range}
@@ -77,20 +78,20 @@ module _ {s f : List ℕ} {x : Verdict} (p : VerdictParts s f x) (n : ℕ) (is :
   ordered_ends = sym (numbers_ordered p.column n is p.ends) ∙ p.in_order
 
   -- what the holds-test says of a record
-  tested : (v : List ℕ) (row : Row (List ℕ)) → value (layout p.column) v ≡ ok row → holds_test s v ≡ ok (holds number_tests leaf (map_row (number_of n) row))
+  tested : (v : List ℕ) (row : Row (List ℕ)) → value (layout p.column) v ≡ Ok row → holds_test s v ≡ Ok (holds number_tests leaf (map_row (number_of n) row))
   tested v row e =
       holds_read (number_values p.column n is) s v p.transform p.leaf row leaf (map_row (number_of n) row) p.sheet_is e
       (number_literals n p.leaf) (number_row_lem n row)
 
   -- a record that the file may hold is one of its rows, which is met where the record is accepted
-  pub covered_row : (v : List ℕ) → Covers f v → (r : Row ℤ) × Isin r rows × (holds_test s v ≡ ok (holds number_tests leaf r))
+  pub covered_row : (v : List ℕ) → Covers f v → (r : Row ℤ) × Isin r rows × (holds_test s v ≡ Ok (holds number_tests leaf r))
   covered_row v c =
       let h = covered f p.summary_is v c in
       let r = map_row (number_of n) h.0 in
       (r, (row_iff ends p.has_missing r ordered_ends).1 (sym (numbers_held_lem p.column n is p.ends p.has_missing h.0) ∙ h.2), tested v h.0 h.1)
 
   -- and each row is that of a record
-  pub row_covered : (r : Row ℤ) → Isin r rows → (v : List ℕ) × AllBytes v × Covers f v × (holds_test s v ≡ ok (holds number_tests leaf r))
+  pub row_covered : (r : Row ℤ) → Isin r rows → (v : List ℕ) × AllBytes v × Covers f v × (holds_test s v ≡ Ok (holds number_tests leaf r))
   unfolding number_values
   row_covered r m =
       let held = (row_iff ends p.has_missing r ordered_ends).0 m in
@@ -102,4 +103,4 @@ module _ {s f : List ℕ} {x : Verdict} (p : VerdictParts s f x) (n : ℕ) (is :
       let may : may_hold (compare_in p.column) p.ends p.has_missing raw ≡ true
       = numbers_held_lem p.column n is p.ends p.has_missing raw ∙ ap (may_hold compare_numbers ends p.has_missing) back ∙ held in
       let read = record_back law r good in
-      (v, record_bytes p.column r, covers_row f p.summary_is v raw read may, tested v raw read ∙ ap (λ y. ok (holds number_tests leaf y)) back)
+      (v, record_bytes p.column r, covers_row f p.summary_is v raw read may, tested v raw read ∙ ap (λ y. Ok (holds number_tests leaf y)) back)

@@ -1,4 +1,5 @@
 -- The bytes of a pooled summary: nothing refuses it, it is the same in either order, and what a file without present values adds. Assumes nothing.
+use Rattle.std.specs.Prelude.{Ok, Err}
 use Prim.Native.Nat.{ℕ, ◌*◌}
 use native.Mathlib.Omega.{arith}
 use mathlib.Core.Bool.{Bool, true, false, not, ◌||◌, and_comm, or_comm, or_self, or-true, or-false}
@@ -10,7 +11,7 @@ use lib.ListN.{length, take}
 use lib.Seq.{take_at, drop_at, length-take-le}
 use borrow.Author.Tests.{eqb-true, eq-eqb, not-true}
 use Rattle.values.specs.Order.{compare_numbers, compare_bytes, is_less}
-use Rattle.values.specs.Outcomes.{Res, ok, err, Row, present}
+use Rattle.values.specs.Outcomes.{Res, Row, present}
 use Rattle.values.specs.laws.OrderLaws.{connected, number_order, bytes_order}
 use Rattle.values.specs.laws.OutcomeLaws.{ok_inj, passing}
 use Rattle.values.specs.laws.TestLaws.{clash, same_test, and_both, both_and}
@@ -22,8 +23,8 @@ use Rattle.values.specs.Words.{AllBytes, field, word, signed_bytes}
 use Rattle.values.specs.declared.datatypes.PrimitiveType.{PrimitiveType}
 use Rattle.values.specs.declared.datatypes.PrimitiveType.TheVariants.{String}
 use Rattle.values.specs.declared.error.ErrorKind.TheVariants.{NotUtf8, WrongSummary, DifferentTypes}
-use Rattle.values.specs.declared.order.Ordering.{Ordering}
-use Rattle.values.specs.declared.order.Ordering.TheVariants.{Less}
+use Rattle.std.specs.declared.cmp.Ordering.{Ordering}
+use Rattle.std.specs.declared.cmp.Ordering.TheVariants.{Less}
 use Rattle.sheet.specs.Records.{record_size, record_at, value}
 use Rattle.sheet.specs.Values.{number_of, by_layout}
 use Rattle.sheet.specs.laws.RecordLaws.{FitsRow, RowBytes, field_bytes, value_read}
@@ -99,7 +100,7 @@ pooled_again a b f e =
       encoded = joined_encoded p.column p.first.ends p.second.ends p.first.encoded p.second.encoded;
       in_order_lem = joined_ordered (column_sorts p.column) p.first.ends p.second.ends p.first.in_order_lem p.second.in_order_lem;
     } in
-    pools s s ∙ ap ok (with_itself s)
+    pools s s ∙ ap Ok (with_itself s)
 
 -- ---- the same ends in either order
 
@@ -130,7 +131,7 @@ module _ (column : PrimitiveType) where
   abbrev ReadEnds : Ends (List ℕ) → Type 0
   ReadEnds ends = Read (low_of ends) × Read (high_of ends)
 
-  read_at : (a : List ℕ) → AllBytes a → (k : ℕ) (row : Row (List ℕ)) → value (layout column) (record_at a k) ≡ ok row → Read row
+  read_at : (a : List ℕ) → AllBytes a → (k : ℕ) (row : Row (List ℕ)) → value (layout column) (record_at a k) ≡ Ok row → Read row
   read_at a h k row e = let v = value_read column (record_at a k) row e in (v.fit, v.are_bytes (field_bytes (record_size * k) record_size a h))
 
   read_ends_lem : (a : List ℕ) → AllBytes a → (s : Sound column a) → ReadEnds s.ends
@@ -160,23 +161,23 @@ module _ {column : PrimitiveType} {a b : List ℕ} (s : Sound column a) (t : Sou
   same_ends = joined_either column s.ends t.ends (read_ends_lem column a ha s) (read_ends_lem column b hb t)
 
   -- a record of one file is that of the other with the same value
-  same_end : (k : ℕ) (w v : Whose) (row : Row (List ℕ)) → value (layout column) (record_at (of w a b) k) ≡ ok row
-      → value (layout column) (record_at (of v b a) k) ≡ ok row → record_at (of w a b) k ≡ record_at (of v b a) k
+  same_end : (k : ℕ) (w v : Whose) (row : Row (List ℕ)) → value (layout column) (record_at (of w a b) k) ≡ Ok row
+      → value (layout column) (record_at (of v b a) k) ≡ Ok row → record_at (of w a b) k ≡ record_at (of v b a) k
   same_end k w v row =
       unique_record column (record_at (of w a b) k) (record_at (of v b a) k) row
       (field_bytes (record_size * k) record_size _ (one_of AllBytes w ha hb)) (field_bytes (record_size * k) record_size _ (one_of AllBytes v hb ha))
 
   same_bytes : bytes_of a b (file_of s) (file_of t) ≡ bytes_of b a (file_of t) (file_of s)
   same_bytes =
-      let low = same_end 0 (lowest_from s t) (lowest_from t s) _ (lowest_is s t) (lowest_is t s ∙ ap (λ e. ok (low_of e)) (sym same_ends)) in
-      let high = same_end 1 (highest_from s t) (highest_from t s) _ (highest_is s t) (highest_is t s ∙ ap (λ e. ok (high_of e)) (sym same_ends)) in
+      let low = same_end 0 (lowest_from s t) (lowest_from t s) _ (lowest_is s t) (lowest_is t s ∙ ap (λ e. Ok (low_of e)) (sym same_ends)) in
+      let high = same_end 1 (highest_from s t) (highest_from t s) _ (highest_is s t) (highest_is t s ∙ ap (λ e. Ok (high_of e)) (sym same_ends)) in
       let type = (parts s).type_is ∙ sym (parts t).type_is in
       rw (low, high, type, or_comm s.has_missing t.has_missing, or_comm (some_present s.ends) (some_present t.ends))
 
 -- ---- the same answer in either order
 same_answer : {A : Type 0} {x y : A} (encoded in_order same : Bool) → (encoded ≡ true → in_order ≡ true → same ≡ true → x ≡ y)
     → checked encoded in_order same x ≡ checked encoded in_order same y
-same_answer true true true h = ap ok (h refl refl refl)
+same_answer true true true h = ap Ok (h refl refl refl)
 same_answer true true false h = refl
 same_answer true false same h = refl
 same_answer false in_order same h = refl
@@ -184,7 +185,7 @@ same_answer false in_order same h = refl
 eqb_swap : (m n : ℕ) → eqb m n ≡ eqb n m
 eqb_swap m n = same_test _ _ (λ h. eq-eqb n m (sym (eqb-true m n h))) (λ h. eq-eqb m n (sym (eqb-true n m h)))
 
-module _ (a b : List ℕ) (x y : Summary) (ha : AllBytes a) (hb : AllBytes b) (d : summary a ≡ ok x) (e : summary b ≡ ok y) where
+module _ (a b : List ℕ) (x y : Summary) (ha : AllBytes a) (hb : AllBytes b) (d : summary a ≡ Ok x) (e : summary b ≡ Ok y) where
   bytes_same : both_encoded x y ≡ true → both_ordered x y ≡ true → same_type x.column y.column ≡ true → bytes_of a b x y ≡ bytes_of b a y x
   bytes_same encoded in_order_lem same =
       let one = same_type_lem x.column y.column same in
@@ -209,10 +210,10 @@ unfolding pooled pool
 either_order a b ha hb = go (summary a) refl (summary b) refl
   where
     go : (p : Res Summary) → summary a ≡ p → (q : Res Summary) → summary b ≡ q → pooled a b ≡ pooled b a
-    go (ok x) d (ok y) e = both_read a b x y ha hb d e
-    go (ok x) d (err k) e = rw (d, e)
-    go (err k) d (ok y) e = rw (d, e)
-    go (err k) d (err j) e = rw (d, e) (ap err ((summary_only a).only k d ∙ sym ((summary_only b).only j e)))
+    go (Ok x) d (Ok y) e = both_read a b x y ha hb d e
+    go (Ok x) d (Err k) e = rw (d, e)
+    go (Err k) d (Ok y) e = rw (d, e)
+    go (Err k) d (Err j) e = rw (d, e) (ap Err ((summary_only a).only k d ∙ sym ((summary_only b).only j e)))
 
 -- ---- files without present values
 

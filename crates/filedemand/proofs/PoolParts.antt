@@ -1,16 +1,17 @@
 -- Two summaries that are pooled, as they were read, and what is read of the pooled one. Assumes nothing.
+use Rattle.std.specs.Prelude.{Ok}
 use Prim.Native.Nat.{ℕ}
 use mathlib.Core.Bool.{Bool, true, false, ◌||◌, or-false}
 use mathlib.Core.List.{List, [], ◌∷◌, ◌++◌}
 use mathlib.Core.Path.{◌≡◌, refl, sym, ap, ap₂, ◌∙◌}
-use Rattle.values.specs.Outcomes.{Res, ok, need, ◌>>=◌, ◌>>◌, Row, present}
+use Rattle.values.specs.Outcomes.{Res, need, ◌>>=◌, ◌>>◌, Row, present}
 use Rattle.values.specs.laws.OutcomeLaws.{ok_inj, passed, gone}
 use Rattle.values.specs.laws.TestLaws.{and_both}
 use Rattle.values.specs.laws.TypesLaws.{same_type_lem}
 use Rattle.values.specs.Types.{layout, same_type}
 use Rattle.values.specs.declared.datatypes.PrimitiveType.{PrimitiveType}
 use Rattle.values.specs.declared.error.ErrorKind.TheVariants.{NotUtf8, WrongSummary, DifferentTypes}
-use Rattle.values.specs.declared.order.Ordering.{Ordering}
+use Rattle.std.specs.declared.cmp.Ordering.{Ordering}
 use Rattle.sheet.specs.Records.{record_at, value}
 use Rattle.summary.specs.EndValues.{compare_in, ordered}
 use Rattle.summary.specs.Summaries.{Ends, none_present, ◌to◌, some_present, Summary, flag_of, summary}
@@ -26,7 +27,7 @@ use Rattle.files.specs.PoolDemand.{Pools}
 pub record Sound (column : PrimitiveType) (a : List ℕ) : Type 0 where
   pub ends : Ends (List ℕ)
   pub has_missing : Bool
-  pub is : summary a ≡ ok (record { column = column; ends = ends; has_missing = has_missing })
+  pub is : summary a ≡ Ok (record { column = column; ends = ends; has_missing = has_missing })
   pub encoded : ends_encoded column ends ≡ true
   pub in_order_lem : ordered (compare_in column) ends ≡ true
 
@@ -50,10 +51,10 @@ checked encoded in_order same x = do
   need encoded NotUtf8
   need in_order WrongSummary
   need same DifferentTypes
-  ok x
+  Ok x
 
 checked_then : {A B : Type 0} (encoded in_order same : Bool) (x : A) (f : A → B)
-    → (checked encoded in_order same x >>= λ y. ok (f y)) ≡ checked encoded in_order same (f x)
+    → (checked encoded in_order same x >>= λ y. Ok (f y)) ≡ checked encoded in_order same (f x)
 checked_then true true true x f = refl
 checked_then true true false x f = refl
 checked_then true false same x f = refl
@@ -63,19 +64,19 @@ checked_then false in_order same x f = refl
 abbrev pub bytes_of : List ℕ → List ℕ → Summary → Summary → List ℕ
 bytes_of a b x y = pooled_bytes a b (joined x.column x.ends x.has_missing y.ends y.has_missing)
 
-pub pooled_checks : (a b : List ℕ) (x y : Summary) → summary a ≡ ok x → summary b ≡ ok y
+pub pooled_checks : (a b : List ℕ) (x y : Summary) → summary a ≡ Ok x → summary b ≡ Ok y
     → pooled a b ≡ checked (both_encoded x y) (both_ordered x y) (same_type x.column y.column) (bytes_of a b x y)
 unfolding pooled pool
 pooled_checks a b x y d e =
     rw (d, e, pool_checks x y) (checked_then (both_encoded x y) (both_ordered x y) (same_type x.column y.column) _ (pooled_bytes a b))
 
 -- a file that was read and passes them
-abbrev pub sound_of : {column : PrimitiveType} (a : List ℕ) (x : Summary) → x.column ≡ column → summary a ≡ ok x → ends_encoded x.column x.ends ≡ true
+abbrev pub sound_of : {column : PrimitiveType} (a : List ℕ) (x : Summary) → x.column ≡ column → summary a ≡ Ok x → ends_encoded x.column x.ends ≡ true
     → ordered (compare_in x.column) x.ends ≡ true → Sound column a
 sound_of a x same e encoded in_order_lem = record {
   ends = x.ends;
   has_missing = x.has_missing;
-  is = e ∙ ap (λ c. ok (record { column = c; ends = x.ends; has_missing = x.has_missing })) same;
+  is = e ∙ ap (λ c. Ok (record { column = c; ends = x.ends; has_missing = x.has_missing })) same;
   encoded = rw (← same) encoded;
   in_order_lem = rw (← same) in_order_lem;
 }
@@ -131,20 +132,20 @@ module _ {column : PrimitiveType} {a b : List ℕ} (s : Sound column a) (t : Sou
   ends_from = joined_ends (compare_in column) s.ends t.ends
 
   -- the ends are where they are said to be
-  end_value : (k : ℕ) (w : Whose) (x y : Row (List ℕ)) → value (layout column) (record_at a k) ≡ ok x → value (layout column) (record_at b k) ≡ ok y
-      → value (layout column) (record_at (of w a b) k) ≡ ok (of w x y)
+  end_value : (k : ℕ) (w : Whose) (x y : Row (List ℕ)) → value (layout column) (record_at a k) ≡ Ok x → value (layout column) (record_at b k) ≡ Ok y
+      → value (layout column) (record_at (of w a b) k) ≡ Ok (of w x y)
   end_value k First x y h i = h
   end_value k Second x y h i = i
 
-  pub lowest_is : value (layout column) (record_at (of lowest_from a b) 0) ≡ ok (low_of ends_from)
-  lowest_is = end_value 0 lowest_from _ _ (parts s).lowest (parts t).lowest ∙ ap ok (joined_low (compare_in column) s.ends t.ends)
+  pub lowest_is : value (layout column) (record_at (of lowest_from a b) 0) ≡ Ok (low_of ends_from)
+  lowest_is = end_value 0 lowest_from _ _ (parts s).lowest (parts t).lowest ∙ ap Ok (joined_low (compare_in column) s.ends t.ends)
 
-  pub highest_is : value (layout column) (record_at (of highest_from a b) 1) ≡ ok (high_of ends_from)
-  highest_is = end_value 1 highest_from _ _ (parts s).highest (parts t).highest ∙ ap ok (joined_high (compare_in column) s.ends t.ends)
+  pub highest_is : value (layout column) (record_at (of highest_from a b) 1) ≡ Ok (high_of ends_from)
+  highest_is = end_value 1 highest_from _ _ (parts s).highest (parts t).highest ∙ ap Ok (joined_high (compare_in column) s.ends t.ends)
 
 -- what the pooled summary says
 pub pooled_sound : {a b f : List ℕ} (p : PoolParts a b f)
-    → summary f ≡ ok (record {
+    → summary f ≡ Ok (record {
       column = p.column;
       ends = joined_ends (compare_in p.column) p.first.ends p.second.ends;
       has_missing = p.first.has_missing || p.second.has_missing;

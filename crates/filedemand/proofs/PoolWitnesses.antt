@@ -1,5 +1,6 @@
 -- What `files` states of pooled summaries is about something: for each clause summaries, a sheet and records that meet what the clause asks; and a predicate that
 -- skips two files and not the pooled one. Assumes nothing.
+use Rattle.std.specs.Prelude.{Ok}
 use Prim.Native.Nat.{ℕ}
 use mathlib.Core.Bool.{Bool, true, false}
 use mathlib.Core.List.{List, [], ◌∷◌, ◌++◌}
@@ -8,7 +9,7 @@ use lib.IntN.{ℤ, pos}
 use Rattle.values.specs.Characters.{ascii}
 use Rattle.values.specs.Order as order
 use Rattle.values.specs.Order.{compare_numbers, compare_bytes}
-use Rattle.values.specs.Outcomes.{ok, Row, missing, present}
+use Rattle.values.specs.Outcomes.{Row, missing, present}
 use Rattle.values.specs.Transforms.{transform_of}
 use Rattle.values.specs.Words.{le_bytes, AllBytes}
 use Rattle.values.specs.laws.WordLaws.{all_bytes}
@@ -69,11 +70,11 @@ no_row_in_skipped_pool_asks =
 abbrev is305 : List ℕ
 is305 = sheet_of 205 1 0 0 (int (pos 305) ∷ [])
 
-between_the_two : Skips is305 high × Skips is305 higher × (test_summary is305 group ≡ ok Read)
+between_the_two : Skips is305 high × Skips is305 higher × (test_summary is305 group ≡ Ok Read)
 unfolding test_summary sheet fields head transform_of content value summary judged number_verdict between compare_numbers
 between_the_two = (refl, refl, refl)
 
-pub wider_than_both : (s a b f : List ℕ) × Pools a b f × Skips s a × Skips s b × (test_summary s f ≡ ok Read)
+pub wider_than_both : (s a b f : List ℕ) × Pools a b f × Skips s a × Skips s b × (test_summary s f ≡ Ok Read)
 wider_than_both = (is305, high, higher, group, grouped, between_the_two.0, between_the_two.1, between_the_two.2)
 
 -- ---- files of a Binary, from "ac" to "b" and from "ad" to "c", which StartsWith "ab" skips

@@ -1,10 +1,11 @@
 -- Files of strings or binaries: what is skipped meets nothing, and none is whole. Assumes nothing.
+use Rattle.std.specs.Prelude.{Ok}
 use Prim.Native.Nat.{ℕ}
 use mathlib.Core.Bool.{true, false, not, ◌||◌}
 use mathlib.Core.List.{List}
 use mathlib.Core.Path.{◌≡◌, sym, ◌∙◌}
 use Rattle.values.specs.Order.{compare_bytes}
-use Rattle.values.specs.Outcomes.{ok, Row, missing, present}
+use Rattle.values.specs.Outcomes.{Row, missing, present}
 use Rattle.values.specs.laws.OutcomeLaws.{ok_inj, going, passed}
 use Rattle.values.specs.laws.TestLaws.{clash}
 use Rattle.values.specs.Types.{bytes, layout, same_type}
@@ -34,7 +35,7 @@ module _ {s f : List ℕ} {x : Verdict} (p : VerdictParts s f x) (n : ℕ) (is :
   by_table = let e = p.verdict_is in rw is at e
 
   -- a record that is accepted is met
-  tested_met : (row : Row (List ℕ)) → tested bytes_tests (read_bytes p.column) p.leaf row ≡ ok true → holds bytes_tests p.leaf row ≡ true
+  tested_met : (row : Row (List ℕ)) → tested bytes_tests (read_bytes p.column) p.leaf row ≡ Ok true → holds bytes_tests p.leaf row ≡ true
   tested_met row e =
       let string = same_type p.column String in
       let a = not string || all_utf8 (literals_in p.leaf) in
@@ -43,7 +44,7 @@ module _ {s f : List ℕ} {x : Verdict} (p : VerdictParts s f x) (n : ℕ) (is :
       let t = passed a NotUtf8 _ (sym (then_need NotUtf8 a b p.leaf row (holds bytes_tests)) ∙ two) in
       ok_inj (passed b NotUtf8 _ t.1).1
 
-  accepted_met : (v : List ℕ) (row : Row (List ℕ)) → value (layout p.column) v ≡ ok row → Accepts s v → holds bytes_tests p.leaf row ≡ true
+  accepted_met : (v : List ℕ) (row : Row (List ℕ)) → value (layout p.column) v ≡ Ok row → Accepts s v → holds bytes_tests p.leaf row ≡ true
   unfolding holds_test tested_sheet
   accepted_met v row e met =
       let t = sym (going _ e) ∙ sym (going _ p.sheet_is) ∙ met in

@@ -1,4 +1,5 @@
 -- A value has one record: two records of bytes with the same value are the same. Assumes nothing.
+use Rattle.std.specs.Prelude.{Ok}
 use Prim.Native.Nat.{ℕ, ◌+◌, ◌-◌, ◌≤◌}
 use native.Mathlib.Omega.{arith}
 use mathlib.Core.Bool.{Bool, true, false, cond}
@@ -8,7 +9,7 @@ use lib.Dec.{eqb}
 use lib.ListN.{length}
 use lib.Seq.{take_all}
 use borrow.Author.Tests.{eqb-true}
-use Rattle.values.specs.Outcomes.{ok, Row, missing, present}
+use Rattle.values.specs.Outcomes.{Row, missing, present}
 use Rattle.values.specs.laws.FieldLaws.{same_beginning}
 use Rattle.values.specs.laws.OutcomeLaws.{ok_inj, missing_not_present, passed, gone}
 use Rattle.values.specs.Types.{content_size, layout}
@@ -39,13 +40,13 @@ same_record says n number r q room hr hq x y =
 
 -- ---- what a value was read from
 module _ (ty : PrimitiveType) (r : List ℕ) where
-  laid_missing : value (layout ty) r ≡ ok missing → Laid missing_mark 0 0 r
+  laid_missing : value (layout ty) r ≡ Ok missing → Laid missing_mark 0 0 r
   unfolding value
   laid_missing e =
       let a = passed (eqb (next_in r) 0) Malformed _ e in
       go (eqb-true (next_in r) 0 a.0) (eqb (length_in r) missing_mark) refl a.1
     where
-      go : next_in r ≡ 0 → (b : Bool) → eqb (length_in r) missing_mark ≡ b → cond b (missing_value r) (present_value (layout ty) r) ≡ ok missing
+      go : next_in r ≡ 0 → (b : Bool) → eqb (length_in r) missing_mark ≡ b → cond b (missing_value r) (present_value (layout ty) r) ≡ Ok missing
           → Laid missing_mark 0 0 r
       go next true d k =
           let size = passed (eqb (length r) record_size) Malformed _ k in
@@ -57,9 +58,9 @@ module _ (ty : PrimitiveType) (r : List ℕ) where
             content_is = refl;
             rest_is = eqb-true (word header_size content_size r) 0 zeros.0;
           }
-      go next false d k = missing_not_present (sym (ok_inj (gone (content (layout ty) r) (λ (bs : List ℕ). ok (present bs)) k).2))
+      go next false d k = missing_not_present (sym (ok_inj (gone (content (layout ty) r) (λ (bs : List ℕ). Ok (present bs)) k).2))
 
-  laid_present : (bs : List ℕ) → value (layout ty) r ≡ ok (present bs) → Laid (length bs) (length bs) (le_number bs) r
+  laid_present : (bs : List ℕ) → value (layout ty) r ≡ Ok (present bs) → Laid (length bs) (length bs) (le_number bs) r
   laid_present bs e =
       let v = value_read ty r (present bs) e in
       let c = content_read (layout ty) r bs v.is_content in
@@ -73,7 +74,7 @@ module _ (ty : PrimitiveType) (r : List ℕ) where
       }
 
 pub unique_record : (ty : PrimitiveType) (r q : List ℕ) (row : Row (List ℕ)) → AllBytes r → AllBytes q
-    → value (layout ty) r ≡ ok row → value (layout ty) q ≡ ok row → r ≡ q
+    → value (layout ty) r ≡ Ok row → value (layout ty) q ≡ Ok row → r ≡ q
 unique_record ty r q missing hr hq d e = same_record missing_mark 0 0 r q (omega arith) hr hq (laid_missing ty r d) (laid_missing ty q e)
 unique_record ty r q (present bs) hr hq d e =
     same_record (length bs) (length bs) (le_number bs) r q (fits_room ty (length bs) (value_read ty r (present bs) d).fit) hr hq

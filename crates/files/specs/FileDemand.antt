@@ -1,7 +1,7 @@
 -- Files known only by their ends lose no weighing: document 02, #104, over the bytes of the routines, and joined to demand 3. Sheets are s, answer sheets q,
 -- summaries f, and value records v and p. Assumes nothing.
-use Rattle.std.specs.Prelude.{ℕ, ◌<◌, Bool, true, List, ◌↔◌, ◌≡◌}
-use Rattle.values.specs.Outcomes.{Res, ok, ◌>>=◌}
+use Rattle.std.specs.Prelude.{ℕ, ◌<◌, Bool, true, List, ◌↔◌, ◌≡◌, Ok}
+use Rattle.values.specs.Outcomes.{Res, ◌>>=◌}
 use Rattle.values.specs.Types.{layout}
 use Rattle.values.specs.Words.{AllBytes}
 use Rattle.projection.specs.declared.question.Question.TheVariants.{Inclusive, Strict}
@@ -20,16 +20,16 @@ unfoldable pub covers : List ℕ → List ℕ → Res Bool
 covers f v = do
   file ← summary f
   row ← value (layout file.column) v
-  ok (may_hold (compare_in file.column) file.ends file.has_missing row)
+  Ok (may_hold (compare_in file.column) file.ends file.has_missing row)
 
 abbrev pub Covers : List ℕ → List ℕ → Type 0
-Covers f v = covers f v ≡ ok true
+Covers f v = covers f v ≡ Ok true
 
 abbrev pub Skips : List ℕ → List ℕ → Type 0
-Skips s f = test_summary s f ≡ ok Skip
+Skips s f = test_summary s f ≡ Ok Skip
 
 abbrev pub Wholly : List ℕ → List ℕ → Type 0
-Wholly s f = test_summary s f ≡ ok Whole
+Wholly s f = test_summary s f ≡ Ok Whole
 
 -- ---- the verdict: records that are there, or that are asked for, are bytes; what is said of every record is said of every list of numbers
 abbrev pub SomeCovered : List ℕ → Type 0
@@ -51,11 +51,11 @@ WholeTakesAll = (s f v : List ℕ) → Wholly s f → Covers f v → Accepts s v
 
 -- of whole-number and time columns: "skip exactly if no value .. meets the predicate"
 abbrev pub SkipIsExact : Type 0
-SkipIsExact = (s f : List ℕ) (x : Verdict) → Numeric s → test_summary s f ≡ ok x → (x ≡ Skip) ↔ NoneAccepted s f
+SkipIsExact = (s f : List ℕ) (x : Verdict) → Numeric s → test_summary s f ≡ Ok x → (x ≡ Skip) ↔ NoneAccepted s f
 
 -- "whole exactly if all of them do", and there is one: "an empty file: skip"
 abbrev pub WholeIsExact : Type 0
-WholeIsExact = (s f : List ℕ) (x : Verdict) → Numeric s → test_summary s f ≡ ok x → (x ≡ Whole) ↔ (SomeCovered f × AllAccepted s f)
+WholeIsExact = (s f : List ℕ) (x : Verdict) → Numeric s → test_summary s f ≡ Ok x → (x ≡ Whole) ↔ (SomeCovered f × AllAccepted s f)
 
 -- "For strings and binaries .. whole isn't given"; 01: "9 String, 10 Binary"
 abbrev pub TextsNeverWhole : Type 0

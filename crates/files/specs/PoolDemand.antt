@@ -1,7 +1,6 @@
 -- A pooled summary stands for both files: document 02, #105, over bytes. Summaries are a, b, e and f, sheets s, answer sheets q, and value records v and p.
 -- Assumes nothing.
-use Rattle.std.specs.Prelude.{ℕ, Bool, true, false, List, ◌⊎◌, ◌≡◌, take}
-use Rattle.values.specs.Outcomes.{ok}
+use Rattle.std.specs.Prelude.{ℕ, Bool, true, false, List, ◌⊎◌, ◌≡◌, take, Ok}
 use Rattle.values.specs.Words.{word, AllBytes}
 use Rattle.values.specs.declared.datatypes.PrimitiveType.{PrimitiveType}
 use Rattle.projection.specs.declared.question.Question.TheVariants.{Inclusive}
@@ -13,10 +12,10 @@ use Rattle.files.specs.FileDemand.{Covers, Skips}
 -- pooling a and b gives f: `pooled` is no routine, but what a caller puts together from what `pool` answers, the record of the lowest end, that of the highest, the
 -- type of both and the flag
 abbrev pub Pools : List ℕ → List ℕ → List ℕ → Type 0
-Pools a b f = pooled a b ≡ ok f
+Pools a b f = pooled a b ≡ Ok f
 
 abbrev pub PooledIsSummary : Type 0
-PooledIsSummary = (a b f : List ℕ) → Pools a b f → (y : Summary) × (summary f ≡ ok y)
+PooledIsSummary = (a b f : List ℕ) → Pools a b f → (y : Summary) × (summary f ≡ Ok y)
 
 -- it can be pooled again: its ends are UTF-8 and in order as well, and with itself it gives itself
 abbrev pub PooledAgain : Type 0
@@ -38,7 +37,7 @@ NoRowInSkippedPool = (s q a b f v p : List ℕ) → RowOf s p v → Pools a b f 
 
 -- the summary of a file without present values, with a missing one or not
 abbrev pub NoneIn : Bool → List ℕ → Type 0
-NoneIn has_missing e = (column : PrimitiveType) × (summary e ≡ ok (record { column = column; ends = none_present; has_missing = has_missing }))
+NoneIn has_missing e = (column : PrimitiveType) × (summary e ≡ Ok (record { column = column; ends = none_present; has_missing = has_missing }))
 
 abbrev pub PooledWith : List ℕ → List ℕ → List ℕ → Type 0
 PooledWith e f g = Pools e f g ⊎ Pools f e g

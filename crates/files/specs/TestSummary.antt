@@ -1,11 +1,10 @@
 -- The test of a file's summary over bytes: whether the file is to be skipped, to be read, or taken whole, and the rules of the lent buffer. Assumes nothing.
-use Rattle.std.specs.Prelude.{ℕ, List, [], ◌∷◌}
-use Rattle.values.specs.Outcomes.{Res, ok, ◌>>=◌}
+use Rattle.std.specs.Prelude.{ℕ, List, [], ◌∷◌, Ok}
+use Rattle.values.specs.Outcomes.{Res, ◌>>=◌}
 use Rattle.expr.specs.Operators.{holds_limit}
 use Rattle.projection.specs.Steps.{Projected}
 use Rattle.sheet.specs.Sheets.{sheet}
-use Rattle.answers.specs.Answers.{as_result}
-use Rattle.answers.specs.declared.answer.Answer.{Answer}
+use Rattle.answers.specs.Answers.{as_result, Answer}
 use Rattle.api.specs.Routines.{answered, left_in}
 use Rattle.summary.specs.Summaries.{summary}
 use Rattle.verdict.specs.Judged.{judged}
@@ -26,7 +25,7 @@ verdict_buffer = 1
 abbrev pub verdict_byte : Res Verdict → Res (Projected (List ℕ))
 verdict_byte r = as_result do
   v ← r
-  ok (verdict_number v ∷ [])
+  Ok (verdict_number v ∷ [])
 
 -- the contract: what the routine answers, and what it leaves in the buffer, for all bytes
 module _ (s f out : List ℕ) where

@@ -1,19 +1,16 @@
 // The routines of filters: a row, or partition values under either question, against a text.
 ghost use Rattle.std.specs.Prelude.{◌≡◌};
-ghost use Rattle.meets.specs.Tested.{held_as};
 ghost use Rattle.projection.specs.declared.question.Question.TheVariants as question;
 ghost use Rattle.columns.specs.code.ColumnAnswers.{side_of};
 ghost use Rattle.parse.specs.code.Asking.{side_for};
-ghost use Rattle.parse.specs.code.FilterReads.{Ready};
 ghost use Rattle.filter.specs.FilterRoutines.{filter_row, filter_parts};
 ghost use Rattle.filter.specs.code.FilterAnswers.{text_answered, filter_answered};
 
 use ask::asked::Asked;
-use columns::cells::{Side, ValuesResult, check_values};
-use columns::list::count_columns;
-use leaves::symbol::SymbolKind;
-use meets::held::Held;
-use parse::parse::parse_or;
+use columns::cells::Side;
+use columns::list::Columns;
+use parse::read::Ahead;
+use parse::request::Request;
 use projection::question::Question;
 use values::error::ErrorKind;
 
@@ -32,59 +29,58 @@ fn side_of(asked: Asked) -> Side
 }
 
 // What a text is answered: 10 for bytes, 9, 10 for brackets and leaves, then its leaves' answers.
-fn answer_text(asked: Asked, c: &[u8], count: usize, v: &[u8], s: &[u8]) -> Held
-    requires { Ready asked c.now v.now s.now count 0 0 }
-    ensures { result ≡ held_as (text_answered asked c.now v.now s.now) }
+#[tactic(auto, using(crate::proofs::Texts::text_answers))]
+fn answer_text(request: &Request) -> Result<bool, ErrorKind>
+    ensures { result ≡ text_answered request.now }
 {
-    if s.len() > TEXT_LIMIT {
-        return Held::Err(ErrorKind::TooLarge);
+    if request.text.len() > TEXT_LIMIT {
+        return Err(ErrorKind::TooLarge);
     }
-    let read = parse_or(asked, c, count, v, s, 0, false, 0);
-    let ahead = read.ahead;
-    let SymbolKind::End = ahead else {
-        return Held::Err(ErrorKind::OutsideGrammar);
+    let filter = match request.parse_or(0, false, 0) {
+        Some(filter) if filter.ahead == Ahead::End => filter,
+        _ => return Err(ErrorKind::OutsideGrammar),
     };
-    if read.deep {
-        return Held::Err(ErrorKind::TooLarge);
+    if filter.deep || filter.leaves > LEAF_LIMIT {
+        return Err(ErrorKind::TooLarge);
     }
-    if read.leaves > LEAF_LIMIT {
-        return Held::Err(ErrorKind::TooLarge);
-    }
-    let answer = read.answer;
-    answer
+    filter.answer
 }
 
 // Whether what is asked meets the text: 3 and 4 first.
-fn filter(asked: Asked, columns: &[u8], text: &[u8], values: &[u8]) -> Held
-    ensures { result ≡ held_as (filter_answered asked columns.now text.now values.now) }
+#[tactic(auto, using(crate::proofs::Filtered::list_broken, crate::proofs::Filtered::values_ready, crate::proofs::Filtered::values_answered))]
+fn filter(asked: Asked, columns: &[u8], text: &[u8], values: &[u8]) -> Result<bool, ErrorKind>
+    ensures { result ≡ filter_answered asked columns.now text.now values.now }
 {
-    let count = count_columns(columns);
-    if count == 0 {
-        return Held::Err(ErrorKind::Malformed);
-    }
-    match check_values(columns, count, values, side_of(asked)) {
-        ValuesResult::Err(e) => Held::Err(e),
-        ValuesResult::Ok => answer_text(asked, columns, count, values, text),
-    }
+    let columns = Columns::read(columns)?;
+    columns.check_values(values, side_of(asked))?;
+    answer_text(&Request {
+        asked,
+        columns,
+        text,
+        values,
+    })
 }
 
 // Whether a row meets a filter.
-pub fn filter_row(columns: &[u8], text: &[u8], values: &[u8]) -> Held
-    ensures { result ≡ held_as (filter_row columns.now text.now values.now) }
+#[tactic(auto, unfolding(crate::specs::FilterRoutines::filter_row))]
+pub fn filter_row(columns: &[u8], text: &[u8], values: &[u8]) -> Result<bool, ErrorKind>
+    ensures { result ≡ filter_row columns.now text.now values.now }
 {
     filter(Asked::Row, columns, text, values)
 }
 
 // Whether rows of these partition values may meet it.
-pub fn filter_project(columns: &[u8], text: &[u8], values: &[u8]) -> Held
-    ensures { result ≡ held_as (filter_parts question.Inclusive columns.now text.now values.now) }
+#[tactic(auto, unfolding(crate::specs::FilterRoutines::filter_parts))]
+pub fn filter_project(columns: &[u8], text: &[u8], values: &[u8]) -> Result<bool, ErrorKind>
+    ensures { result ≡ filter_parts question.Inclusive columns.now text.now values.now }
 {
     filter(Asked::Part(Question::Inclusive), columns, text, values)
 }
 
 // Whether all of them do.
-pub fn filter_strict_project(columns: &[u8], text: &[u8], values: &[u8]) -> Held
-    ensures { result ≡ held_as (filter_parts question.Strict columns.now text.now values.now) }
+#[tactic(auto, unfolding(crate::specs::FilterRoutines::filter_parts))]
+pub fn filter_strict_project(columns: &[u8], text: &[u8], values: &[u8]) -> Result<bool, ErrorKind>
+    ensures { result ≡ filter_parts question.Strict columns.now text.now values.now }
 {
     filter(Asked::Part(Question::Strict), columns, text, values)
 }

@@ -1,4 +1,5 @@
 -- Numbers and byte strings owe what one leaf asks of a kind. Assumes nothing.
+use Rattle.std.specs.Prelude.{Ok}
 use Prim.Native.Nat.{ℕ}
 use mathlib.Core.Bool.{true, not, ◌||◌, false≢true}
 use mathlib.Core.List.{List}
@@ -7,7 +8,6 @@ use mathlib.Core.Path.{◌≡◌, refl, sym, ap, ◌∙◌}
 use lib.IntN.{ℤ}
 use lib.ListN.{length}
 use borrow.Author.Tests.{eqb-true}
-use Rattle.values.specs.Outcomes.{ok}
 use Rattle.values.specs.laws.OutcomeLaws.{ok_inj, passed}
 use Rattle.values.specs.Types.{number, bytes, layout, same_type}
 use Rattle.values.specs.Utf8.{utf8}
@@ -31,7 +31,7 @@ use Rattle.demand.proofs.StepRefusalLaws.{numbers_refused, bytes_refused}
 use Rattle.filterdemand.proofs.JoinedLaws.{Refusal}
 use Rattle.filterdemand.proofs.LeafKindLaws.{LeafLaws}
 
-module _ (column to : PrimitiveType) (transform : Transform) (n : ℕ) (result : result_type transform column ≡ ok to) where
+module _ (column to : PrimitiveType) (transform : Transform) (n : ℕ) (result : result_type transform column ≡ Ok to) where
   pub number_leaf_lem : (is : layout column ≡ number n) (k : known transform ≡ true) → LeafLaws (number_kind column to transform n is k result)
   unfolding number_kind number_values
   number_leaf_lem is k =

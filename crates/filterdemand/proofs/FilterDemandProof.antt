@@ -1,5 +1,6 @@
 -- Filters lose nothing, over the bytes of the routines, in files of older writers too: every leaf is fitted, each fitted leaf loses nothing, and so the whole.
 -- Assumes nothing.
+use Rattle.std.specs.Prelude.{Ok}
 use Prim.Native.Nat.{ℕ, ◌*◌, ◌≤◌}
 use native.Mathlib.Omega.{arith}
 use mathlib.Core.Bool.{Bool, true}
@@ -9,7 +10,6 @@ use mathlib.Core.List.Memᴰ.{head as here}
 use mathlib.Core.List.{List, map, Memᴰ as Isin}
 use mathlib.Core.Logic.{inl, ◌↔◌}
 use mathlib.Core.Path.{◌≡◌, refl, sym, ap, subst, ◌∙◌}
-use Rattle.values.specs.Outcomes.{ok}
 use Rattle.values.specs.laws.OutcomeLaws.{ok_inj, going, gone}
 use Rattle.values.specs.laws.WordLaws.{word_step}
 use Rattle.values.specs.Words.{AllBytes}
@@ -57,13 +57,13 @@ named_every g (opposite f) h = named_every g f h
 named_every g (bracket f) h = named_every g f h
 
 -- every leaf that is found is fitted
-pub all_fitted : (cs : List Column) (t : List ℕ) (f : Filter Leaf) → filter_in cs t ≡ ok f → EveryLeaf (Fitted cs) f
+pub all_fitted : (cs : List Column) (t : List ℕ) (f : Filter Leaf) → filter_in cs t ≡ Ok f → EveryLeaf (Fitted cs) f
 all_fitted cs t f e = filter_every cs (Fitted cs) (λ name o l x d. leaf_fitted name o l x cs d) t f e
 
 -- ---- a fitted leaf: its head, and its column's value
-module _ (side : Side) (c v : List ℕ) (cells : List Cell) (e : cells_of side c v ≡ ok cells) (l : Leaf) (f : Fitted (columns_of cells) l) where
-  pub leaf_head : let h = head_at c l.place in head (type_in h) (transform_in h) (width_in h) ≡ ok l.head
-  leaf_head = column_head side c v cells e l.place f.column f.there ∙ ap ok f.head_is
+module _ (side : Side) (c v : List ℕ) (cells : List Cell) (e : cells_of side c v ≡ Ok cells) (l : Leaf) (f : Fitted (columns_of cells) l) where
+  pub leaf_head : let h = head_at c l.place in head (type_in h) (transform_in h) (width_in h) ≡ Ok l.head
+  leaf_head = column_head side c v cells e l.place f.column f.there ∙ ap Ok f.head_is
 
   -- the column, as the leaf has its head
   abbrev with_head : Head → Column
@@ -73,7 +73,7 @@ module _ (side : Side) (c v : List ℕ) (cells : List Cell) (e : cells_of side c
   leaf_cell = subst (λ h. CellAt side v cells l.place (with_head h)) f.head_is (cell_at_lem side c v cells e l.place f.column f.there)
 
 -- ---- whole filters: a row v, and the records p that are asked
-module _ (c t v p : List ℕ) (cells others : List Cell) (row_cells_lem : cells_of rows c v ≡ ok cells) (part_cells_lem : cells_of parts c p ≡ ok others) where
+module _ (c t v p : List ℕ) (cells others : List Cell) (row_cells_lem : cells_of rows c v ≡ Ok cells) (part_cells_lem : cells_of parts c p ≡ Ok others) where
   abbrev cs : List Column
   cs = columns_of cells
 
@@ -81,20 +81,20 @@ module _ (c t v p : List ℕ) (cells others : List Cell) (row_cells_lem : cells_
   same_columns = ok_inj (sym (cells_columns parts c p others part_cells_lem) ∙ cells_columns rows c v cells row_cells_lem)
 
   -- what the filter is answered, once it is found
-  row_is : (f : Filter Leaf) → filter_in cs t ≡ ok f → filter_row c t v ≡ answered (row_answer cells) (straight turn f)
+  row_is : (f : Filter Leaf) → filter_in cs t ≡ Ok f → filter_row c t v ≡ answered (row_answer cells) (straight turn f)
   unfolding filter_row
   row_is f e = going _ row_cells_lem ∙ going _ e
 
-  parts_is : (question : Question) (f : Filter Leaf) → filter_in cs t ≡ ok f
+  parts_is : (question : Question) (f : Filter Leaf) → filter_in cs t ≡ Ok f
       → filter_parts question c t p ≡ answered (part_answer question others) (straight turn f)
   unfolding filter_parts
   parts_is question f e = going _ part_cells_lem ∙ going _ (ap (λ ds. filter_in ds t) same_columns ∙ e)
 
-  row_found : {b : Bool} → filter_row c t v ≡ ok b → (f : Filter Leaf) × (filter_in cs t ≡ ok f)
+  row_found : {b : Bool} → filter_row c t v ≡ Ok b → (f : Filter Leaf) × (filter_in cs t ≡ Ok f)
   unfolding filter_row
   row_found e = let f = gone (filter_in cs t) _ (sym (going _ row_cells_lem) ∙ e) in (f.0, f.1)
 
-  parts_found : (question : Question) {b : Bool} → filter_parts question c t p ≡ ok b → (f : Filter Leaf) × (filter_in cs t ≡ ok f)
+  parts_found : (question : Question) {b : Bool} → filter_parts question c t p ≡ Ok b → (f : Filter Leaf) × (filter_in cs t ≡ Ok f)
   unfolding filter_parts
   parts_found question e =
       let f = gone (filter_in (columns_of others) t) _ (sym (going _ part_cells_lem) ∙ e) in
@@ -102,12 +102,12 @@ module _ (c t v p : List ℕ) (cells others : List Cell) (row_cells_lem : cells_
 
   -- what is so of the records at each place that a leaf names
   abbrev Named : (List ℕ → List ℕ → List ℕ → Type 0) → Type 0
-  Named at = (f : Filter Leaf) → filter_in cs t ≡ ok f → (k : ℕ) → Isin k (places_in f) → at (head_at c k) (record_at p k) (record_at v k)
+  Named at = (f : Filter Leaf) → filter_in cs t ≡ Ok f → (k : ℕ) → Isin k (places_in f) → at (head_at c k) (record_at p k) (record_at v k)
 
   -- is so of each leaf, turned or not
   every_leaf : (at : List ℕ → List ℕ → List ℕ → Type 0) (g : Leaf → Type 0) → Named at
       → ((l : Leaf) → Fitted cs l → at (head_at c l.place) (record_at p l.place) (record_at v l.place) → g l)
-      → (f : Filter Leaf) → filter_in cs t ≡ ok f → EveryTurned g (straight turn f)
+      → (f : Filter Leaf) → filter_in cs t ≡ Ok f → EveryTurned g (straight turn f)
   every_leaf at g named one f e =
       let here : ℕ → Type 0 = λ k. at (head_at c k) (record_at p k) (record_at v k) in
       let both = every_both (Fitted cs) (λ l. here l.place) f (all_fitted cs t f e) (named_every here f (named f e)) in
@@ -128,17 +128,17 @@ module _ (c t v p : List ℕ) (cells others : List Cell) (row_cells_lem : cells_
         leaf_leads l f.content_fits cells others (head_at c l.place) (record_at v l.place) (record_at p l.place) (leaf_head rows c v cells row_cells_lem l f)
         (leaf_cell rows c v cells row_cells_lem l f).value_is (leaf_cell parts c p others part_cells_lem l other).value_is h
 
-  kept : Named Filed → filter_row c t v ≡ ok true → Kept (filter_parts Inclusive c t p)
+  kept : Named Filed → filter_row c t v ≡ Ok true → Kept (filter_parts Inclusive c t p)
   kept named e =
       let f = row_found e in
       let row = row_answer cells in
       let part = part_answer Inclusive others in
       let asked = straight turn f.0 in
       let follows = answered_follows row part asked (every_leaf Filed _ named one_follows f.0 f.1) in
-      let yes : answered row asked ≡ ok true = sym (row_is f.0 f.1) ∙ e in
+      let yes : answered row asked ≡ Ok true = sym (row_is f.0 f.1) ∙ e in
       subst Kept (sym (parts_is Inclusive f.0 f.1)) (follows_kept (answered row asked) (answered part asked) follows yes)
 
-  safe : Named RowOf → filter_parts Strict c t p ≡ ok true → filter_row c t v ≡ ok true
+  safe : Named RowOf → filter_parts Strict c t p ≡ Ok true → filter_row c t v ≡ Ok true
   safe named e =
       let f = parts_found Strict e in
       let row = row_answer cells in
@@ -158,10 +158,10 @@ strict_is_safe : FilterStrictIsSafe
 strict_is_safe c t v p h e = safe c t v p h.cells h.others h.row_cells_lem h.part_cells_lem h.named e
 
 -- ---- a filter of one leaf
-module _ (side : Side) (c v : List ℕ) (cells : List Cell) (a : cells_of side c v ≡ ok cells) (l : Leaf) (f : Fitted (columns_of cells) l) where
+module _ (side : Side) (c v : List ℕ) (cells : List Cell) (a : cells_of side c v ≡ Ok cells) (l : Leaf) (f : Fitted (columns_of cells) l) where
   -- its sheet is read as the leaf, with what four bytes hold of the width
   leaf_read : (most : ℕ) → 1 ≤ most
-      → sheet most (sheet_in c l) ≡ ok (sheet_of l.head.column (held_transform l.head.transform) (predicate_in l))
+      → sheet most (sheet_in c l) ≡ Ok (sheet_of l.head.column (held_transform l.head.transform) (predicate_in l))
   leaf_read most room =
       let h = head_at c l.place in
       let head_is = leaf_head side c v cells a l f in
@@ -210,7 +210,7 @@ module _ (question : Question) (c t p : List ℕ) (l : Leaf) (h : OneLeafAsked q
       one_leaf_parts question c t p h.cells l h.list_bytes h.part_cells_lem h.is_leaf
       ∙ ap (λ r. by_returned question r (record_at p l.place)) h.returned
 
-  exactly : {X : Type 0} → Accepts h.predicate (record_at p l.place) ↔ X → (filter_parts question c t p ≡ ok true) ↔ X
+  exactly : {X : Type 0} → Accepts h.predicate (record_at p l.place) ↔ X → (filter_parts question c t p ≡ Ok true) ↔ X
   exactly (there, back) = (λ e. there (sym by_predicate ∙ e), λ x. by_predicate ∙ back x)
 
 one_leaf_strict_is_exact : OneLeafStrictIsExact

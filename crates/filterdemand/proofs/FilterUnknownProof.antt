@@ -1,10 +1,11 @@
 -- 7 is Unknown's alone, of filters: list, values and text are refused with 3, 4, 9 and 10, and a leaf with 7 only where its column has Unknown. Assumes nothing.
+use Rattle.std.specs.Prelude.{Ok}
 use Prim.Native.Nat.{ℕ}
 use native.Mathlib.Omega.{arith}
 use mathlib.Core.List.{List, Memᴰ as Isin}
 use mathlib.Core.Logic.{◌⊎◌, inl, inr}
 use mathlib.Core.Path.{◌≡◌, refl, ap}
-use Rattle.values.specs.Outcomes.{Res, ok, error_number}
+use Rattle.values.specs.Outcomes.{Res, error_number}
 use Rattle.values.specs.Types.{Layout, number, bytes, layout}
 use Rattle.values.specs.declared.error.ErrorKind.TheVariants.{FeatureUnsupported}
 use Rattle.values.specs.declared.datatypes.PrimitiveType.{PrimitiveType}
@@ -64,7 +65,7 @@ module _ (question : Question) (cells : List Cell) (l : Leaf) where
       go (bytes n) is = kind_only (bytes_refusals column transform n is)
 
 -- ---- the whole
-module _ (question : Question) (c t p : List ℕ) (cells : List Cell) (a : cells_of parts c p ≡ ok cells) (f : Filter Leaf) (e : filter_in (columns_of cells) t ≡ ok f) where
+module _ (question : Question) (c t p : List ℕ) (cells : List Cell) (a : cells_of parts c p ≡ Ok cells) (f : Filter Leaf) (e : filter_in (columns_of cells) t ≡ Ok f) where
   abbrev Named : Leaf → Type 0
   Named l = Fitted (columns_of cells) l × Isin l.place (places_in f)
 

@@ -1,5 +1,6 @@
 -- What is shown of filters is about something: for each clause a column list, a text, a row and its partition values that meet what the clause asks; for those on
 -- losing and letting in, also a row of missing values; and so for what is said of a leaf and `not` before it. Assumes nothing.
+use Rattle.std.specs.Prelude.{Ok, Err}
 use Prim.Native.Nat.{ℕ, ◌-◌}
 use mathlib.Core.Bool.{true, false}
 use mathlib.Core.List.Memᴰ.{cases_cons}
@@ -12,7 +13,7 @@ use lib.ListN.{length, replicate}
 use Rattle.values.specs.code.Places.{AllOf}
 use Rattle.values.specs.Characters.{ascii}
 use Rattle.values.specs.Order.{compare_numbers, compare_bytes, starts_with}
-use Rattle.values.specs.Outcomes.{ok, err, ◌>>=◌, Row, missing, present}
+use Rattle.values.specs.Outcomes.{◌>>=◌, Row, missing, present}
 use Rattle.values.specs.laws.OutcomeLaws.{ok_inj, going}
 use Rattle.values.specs.Transforms.{transform_of}
 use Rattle.values.specs.Types.{in_type}
@@ -81,11 +82,11 @@ row_cells = cells_with (present (int (pos 5))) (present (ascii "abc"))
 abbrev pub part_cells : List Cell
 part_cells = cells_with (present (int (pos 0))) (present (ascii "ab"))
 
-pub row_cells_lem : cells_of rows list row ≡ ok row_cells
+pub row_cells_lem : cells_of rows list row ≡ Ok row_cells
 unfolding cells_of columns column fields head transform_of value content compare_bytes utf8 code_points is_code_point
 row_cells_lem = refl
 
-pub part_cells_lem : cells_of parts list part ≡ ok part_cells
+pub part_cells_lem : cells_of parts list part ≡ Ok part_cells
 unfolding cells_of columns column fields head transform_of value content compare_bytes utf8 code_points is_code_point result_type
 part_cells_lem = refl
 
@@ -102,8 +103,8 @@ pub isin_all : (g : ℕ → Type 0) (ks : List ℕ) → AllOf g ks → (k : ℕ)
 isin_all g [] h k m = absurd (not-nil m)
 isin_all g (i ∷ ks) h k m = ⊎_elim (λ e. subst g (sym e) h.0) (λ n. isin_all g ks h.1 k n) (cases_cons m)
 
-module _ (v p : List ℕ) (cells others : List Cell) (a : cells_of rows list v ≡ ok cells) (b : cells_of parts list p ≡ ok others) where
-  rows_of : (t ks : List ℕ) → (filter_in (map (λ x. x.column) cells) t >>= λ f. ok (places_in f)) ≡ ok ks → AllOf (IsRow v p) ks → Rows list t v p
+module _ (v p : List ℕ) (cells others : List Cell) (a : cells_of rows list v ≡ Ok cells) (b : cells_of parts list p ≡ Ok others) where
+  rows_of : (t ks : List ℕ) → (filter_in (map (λ x. x.column) cells) t >>= λ f. Ok (places_in f)) ≡ Ok ks → AllOf (IsRow v p) ks → Rows list t v p
   rows_of t ks e h = record {
     cells = cells;
     row_cells_lem = a;
@@ -120,21 +121,21 @@ text_rows : Rows list text row part
 unfolding filter_in symbols disjunction conjunction single in_type compare_bytes utf8 code_points is_code_point
 text_rows = rows_of row part row_cells part_cells row_cells_lem part_cells_lem text (0 ∷ 1 ∷ 1 ∷ 0 ∷ []) refl (is_row.0, (is_row.1, (is_row.1, (is_row.0, tt))))
 
-row_yes : filter_row list text row ≡ ok true
+row_yes : filter_row list text row ≡ Ok true
 unfolding filter_row cells_of columns column fields head transform_of value content compare_bytes utf8 code_points is_code_point
     filter_in symbols disjunction conjunction single in_type row_answer tested_sheet compare_numbers starts_with
 row_yes = refl
 
-strict_yes : filter_parts Strict list text part ≡ ok true
+strict_yes : filter_parts Strict list text part ≡ Ok true
 unfolding filter_parts cells_of columns column fields head transform_of value content compare_bytes utf8 code_points is_code_point result_type
     filter_in symbols disjunction conjunction single in_type part_answer project_numbers project_bytes transform_number transform_bytes
     truncated floor_mod first_code_points compare_numbers starts_with
 strict_yes = refl
 
-pub loses_no_row_asks : (c t v p : List ℕ) × Rows c t v p × (filter_row c t v ≡ ok true)
+pub loses_no_row_asks : (c t v p : List ℕ) × Rows c t v p × (filter_row c t v ≡ Ok true)
 loses_no_row_asks = (list, text, row, part, text_rows, row_yes)
 
-pub strict_is_safe_asks : (c t v p : List ℕ) × Rows c t v p × (filter_parts Strict c t p ≡ ok true)
+pub strict_is_safe_asks : (c t v p : List ℕ) × Rows c t v p × (filter_parts Strict c t p ≡ Ok true)
 strict_is_safe_asks = (list, text, row, part, text_rows, strict_yes)
 
 -- ---- a row that meets a filter, which is refused with 8: below the lowest Int but one lies the lowest, whose partition value is no Int
@@ -145,18 +146,18 @@ lowest_rows : Rows list lowest row part
 unfolding filter_in symbols disjunction conjunction single in_type compare_bytes utf8 code_points is_code_point
 lowest_rows = rows_of row part row_cells part_cells row_cells_lem part_cells_lem lowest (0 ∷ 1 ∷ []) refl (is_row.0, (is_row.1, tt))
 
-lowest_yes : filter_row list lowest row ≡ ok true
+lowest_yes : filter_row list lowest row ≡ Ok true
 unfolding filter_row cells_of columns column fields head transform_of value content compare_bytes utf8 code_points is_code_point
     filter_in symbols disjunction conjunction single in_type row_answer tested_sheet compare_numbers starts_with
 lowest_yes = refl
 
-lowest_refused : filter_parts Inclusive list lowest part ≡ err Overflow
+lowest_refused : filter_parts Inclusive list lowest part ≡ Err Overflow
 unfolding filter_parts cells_of columns column fields head transform_of value content compare_bytes utf8 code_points is_code_point result_type
     filter_in symbols disjunction conjunction single in_type part_answer project_numbers project_bytes transform_number transform_bytes
     truncated floor_mod first_code_points compare_numbers starts_with
 lowest_refused = refl
 
-pub refusal_asks : (c t v p : List ℕ) × Rows c t v p × (filter_row c t v ≡ ok true) × (filter_parts Inclusive c t p ≡ err Overflow)
+pub refusal_asks : (c t v p : List ℕ) × Rows c t v p × (filter_row c t v ≡ Ok true) × (filter_parts Inclusive c t p ≡ Err Overflow)
 refusal_asks = (list, lowest, row, part, lowest_rows, lowest_yes, lowest_refused)
 
 -- ---- a row of missing values, whose partition values are missing: it meets a filter, and they meet it strictly
@@ -166,7 +167,7 @@ blank = value_record missing ++ value_record missing
 abbrev blank_cells : List Cell
 blank_cells = cells_with missing missing
 
-blank_cells_lem : (cells_of rows list blank ≡ ok blank_cells) × (cells_of parts list blank ≡ ok blank_cells)
+blank_cells_lem : (cells_of rows list blank ≡ Ok blank_cells) × (cells_of parts list blank ≡ Ok blank_cells)
 unfolding cells_of columns column fields head transform_of value compare_bytes result_type
 blank_cells_lem = (refl, refl)
 
@@ -183,20 +184,20 @@ others_rows =
     rows_of blank blank blank_cells blank_cells blank_cells_lem.0 blank_cells_lem.1 others (1 ∷ 0 ∷ 1 ∷ []) refl
     (blank_is_row.1, (blank_is_row.0, (blank_is_row.1, tt)))
 
-others_row_yes : filter_row list others blank ≡ ok true
+others_row_yes : filter_row list others blank ≡ Ok true
 unfolding filter_row cells_of columns column fields head transform_of value compare_bytes utf8 code_points is_code_point
     filter_in symbols disjunction conjunction single in_type row_answer tested_sheet
 others_row_yes = refl
 
-others_strict_yes : filter_parts Strict list others blank ≡ ok true
+others_strict_yes : filter_parts Strict list others blank ≡ Ok true
 unfolding filter_parts cells_of columns column fields head transform_of value compare_bytes utf8 code_points is_code_point result_type
     filter_in symbols disjunction conjunction single in_type part_answer project_numbers project_bytes transform_number transform_bytes truncated floor_mod first_code_points
 others_strict_yes = refl
 
-pub missing_loses_no_row_asks : (c t v p : List ℕ) × (v ≡ blank) × Rows c t v p × (filter_row c t v ≡ ok true)
+pub missing_loses_no_row_asks : (c t v p : List ℕ) × (v ≡ blank) × Rows c t v p × (filter_row c t v ≡ Ok true)
 missing_loses_no_row_asks = (list, others, blank, blank, refl, others_rows, others_row_yes)
 
-pub missing_strict_is_safe_asks : (c t v p : List ℕ) × (v ≡ blank) × Rows c t v p × (filter_parts Strict c t p ≡ ok true)
+pub missing_strict_is_safe_asks : (c t v p : List ℕ) × (v ≡ blank) × Rows c t v p × (filter_parts Strict c t p ≡ Ok true)
 missing_strict_is_safe_asks = (list, others, blank, blank, refl, others_rows, others_strict_yes)
 
 -- ---- a leaf and `not` before it: `s = 'ab12'` and `a < 5`, of that row and of the one with values
@@ -209,16 +210,16 @@ is_ab12 = record { place = 1; head = head_of_s; operator = eq; content = ascii "
 abbrev below5 : Leaf
 below5 = record { place = 0; head = head_of_a; operator = less_than; content = int (pos 5) }
 
-ab12_texts : (filter_in declared (ascii "s = 'ab12'") ≡ ok (leaf is_ab12)) × (filter_in declared (ascii "not s = 'ab12'") ≡ ok (opposite (leaf is_ab12)))
+ab12_texts : (filter_in declared (ascii "s = 'ab12'") ≡ Ok (leaf is_ab12)) × (filter_in declared (ascii "not s = 'ab12'") ≡ Ok (opposite (leaf is_ab12)))
 unfolding filter_in symbols disjunction conjunction single in_type compare_bytes utf8 code_points is_code_point
 ab12_texts = (refl, refl)
 
-below5_texts : (filter_in declared (ascii "a < 5") ≡ ok (leaf below5)) × (filter_in declared (ascii "not a < 5") ≡ ok (opposite (leaf below5)))
+below5_texts : (filter_in declared (ascii "a < 5") ≡ Ok (leaf below5)) × (filter_in declared (ascii "not a < 5") ≡ Ok (opposite (leaf below5)))
 unfolding filter_in symbols disjunction conjunction single in_type compare_bytes
 below5_texts = (refl, refl)
 
-abbrev asked_of : (t u v : List ℕ) (cells : List Cell) (l : Leaf) → cells_of rows list v ≡ ok cells
-    → (filter_in (map (λ x. x.column) cells) t ≡ ok (leaf l)) × (filter_in (map (λ x. x.column) cells) u ≡ ok (opposite (leaf l))) → LeafAndNot list t u v
+abbrev asked_of : (t u v : List ℕ) (cells : List Cell) (l : Leaf) → cells_of rows list v ≡ Ok cells
+    → (filter_in (map (λ x. x.column) cells) t ≡ Ok (leaf l)) × (filter_in (map (λ x. x.column) cells) u ≡ Ok (opposite (leaf l))) → LeafAndNot list t u v
 asked_of t u v cells l a texts = record { cells = cells; row_cells_lem = a; found = l; leaf_text = texts.0; not_text = texts.1 }
 
 pub present_meets_one_asks : (c t u v x : List ℕ) × (h : LeafAndNot c t u v) × (row_at h.cells h.found.place ≡ present x)

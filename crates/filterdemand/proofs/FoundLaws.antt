@@ -1,4 +1,5 @@
 -- What is so of every leaf that a text's words are read as is so of every leaf of the filter that is found in the text. Assumes nothing.
+use Rattle.std.specs.Prelude.{Ok}
 use Prim.Native.Nat.{ℕ, zero, suc}
 use mathlib.Core.Bool.{Bool, true, false, cond}
 use mathlib.Core.List.{List, [], ◌∷◌}
@@ -9,7 +10,6 @@ use lib.ListN.{length}
 use Rattle.values.specs.code.Places.{AllOf}
 use Rattle.values.specs.Characters.{ascii, following}
 use Rattle.values.specs.Order.{compare_bytes, is_equal}
-use Rattle.values.specs.Outcomes.{ok}
 use Rattle.values.specs.laws.OutcomeLaws.{ok_inj, ok_not_err, passed, gone}
 use Rattle.values.specs.declared.error.ErrorKind.TheVariants.{TooLarge}
 use Rattle.expr.specs.Operators.{Binary}
@@ -118,12 +118,12 @@ module _ (cs : List Column) (g : Leaf → Type 0) (fitted : (name : List ℕ) (o
   symbols_every s = symbols_within_lem (suc (length s)) s
 
   -- ---- a whole text
-  whole_found : (r : Found Leaf) {f : Filter Leaf} → whole r ≡ ok f → r ≡ found f []
+  whole_found : (r : Found Leaf) {f : Filter Leaf} → whole r ≡ Ok f → r ≡ found f []
   whole_found (found f []) e = ap (λ x. found x []) (ok_inj e)
   whole_found (found f (y ∷ ys)) e = ok_not_err e
   whole_found nothing e = ok_not_err e
 
-  pub filter_every : (t : List ℕ) (f : Filter Leaf) → filter_in cs t ≡ ok f → EveryLeaf g f
+  pub filter_every : (t : List ℕ) (f : Filter Leaf) → filter_in cs t ≡ Ok f → EveryLeaf g f
   unfolding filter_in
   filter_every t f e =
       let n = suc (length (symbols cs t)) in

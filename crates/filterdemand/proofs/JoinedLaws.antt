@@ -1,9 +1,10 @@
 -- Filters over any leaves: what is so of every leaf is so of every leaf turned, and what two answers of each leaf have to do with each other the answers of the
 -- whole have. Assumes nothing.
+use Rattle.std.specs.Prelude.{Ok, Err}
 use mathlib.Core.Bool.{Bool, true, ◌&&◌, ◌||◌}
 use mathlib.Core.Logic.{◌⊎◌, ⊎_elim}
 use mathlib.Core.Path.{◌≡◌, ap, ◌∙◌}
-use Rattle.values.specs.Outcomes.{Res, ok, err, error_number}
+use Rattle.values.specs.Outcomes.{Res, error_number}
 use Rattle.values.specs.laws.OutcomeLaws.{ok_inj, going, gone}
 use Rattle.values.specs.laws.TestLaws.{or_cases, or_left, or_right, and_both, both_and}
 use Rattle.values.specs.declared.error.ErrorKind.{ErrorKind}
@@ -64,25 +65,25 @@ abbrev pub Refusal : ErrorKind → Type 0
 Refusal e = (error_number e ≡ 6) ⊎ (error_number e ≡ 8)
 
 abbrev pub Follows : Res Bool → Res Bool → Type 0
-Follows a (ok u) = a ≡ ok true → u ≡ true
-Follows a (err e) = Refusal e
+Follows a (Ok u) = a ≡ Ok true → u ≡ true
+Follows a (Err e) = Refusal e
 
-pub follows_kept : (a p : Res Bool) → Follows a p → a ≡ ok true → Kept p
-follows_kept a (ok u) h e = h e
-follows_kept a (err x) h e = h
+pub follows_kept : (a p : Res Bool) → Follows a p → a ≡ Ok true → Kept p
+follows_kept a (Ok u) h e = h e
+follows_kept a (Err x) h e = h
 
 -- ---- strict: the first answer is no refusal, and yes where the second is
 pub record Leads (a p : Res Bool) : Type 0 where
   pub says : Bool
-  pub is : a ≡ ok says
-  pub yes_where : p ≡ ok true → says ≡ true
+  pub is : a ≡ Ok says
+  pub yes_where : p ≡ Ok true → says ≡ true
 
-pub leads_yes : (a p : Res Bool) → Leads a p → p ≡ ok true → a ≡ ok true
-leads_yes a p h e = h.is ∙ ap ok (h.yes_where e)
+pub leads_yes : (a p : Res Bool) → Leads a p → p ≡ Ok true → a ≡ Ok true
+leads_yes a p h e = h.is ∙ ap Ok (h.yes_where e)
 
 -- ---- two answers joined
-joined_ok : (join : Bool → Bool → Bool) (a b : Res Bool) {z : Bool} → joined join a b ≡ ok z
-    → (x : Bool) × (y : Bool) × (a ≡ ok x) × (b ≡ ok y) × (join x y ≡ z)
+joined_ok : (join : Bool → Bool → Bool) (a b : Res Bool) {z : Bool} → joined join a b ≡ Ok z
+    → (x : Bool) × (y : Bool) × (a ≡ Ok x) × (b ≡ Ok y) × (join x y ≡ z)
 joined_ok join a b e =
     let x = gone a _ e in
     let y = gone b _ x.2 in
@@ -100,11 +101,11 @@ and_rises x y u w f g h = let k = and_both x y h in both_and (f k.0) (g k.1)
 
 module _ (join : Bool → Bool → Bool) (rises : Rises join) where
   joined_follows : (a b p q : Res Bool) → Follows a p → Follows b q → Follows (joined join a b) (joined join p q)
-  joined_follows a b (ok u) (ok w) h k = λ e.
+  joined_follows a b (Ok u) (Ok w) h k = λ e.
       let x = joined_ok join a b e in
-      rises x.0 x.1 u w (λ d. h (x.2 ∙ ap ok d)) (λ d. k (x.3 ∙ ap ok d)) x.4
-  joined_follows a b (ok u) (err z) h k = k
-  joined_follows a b (err z) q h k = h
+      rises x.0 x.1 u w (λ d. h (x.2 ∙ ap Ok d)) (λ d. k (x.3 ∙ ap Ok d)) x.4
+  joined_follows a b (Ok u) (Err z) h k = k
+  joined_follows a b (Err z) q h k = h
 
   joined_leads : (a b p q : Res Bool) → Leads a p → Leads b q → Leads (joined join a b) (joined join p q)
   joined_leads a b p q h k = record {
@@ -112,7 +113,7 @@ module _ (join : Bool → Bool → Bool) (rises : Rises join) where
     is = going _ h.is ∙ going _ k.is;
     yes_where = λ e.
         let x = joined_ok join p q e in
-        rises x.0 x.1 h.says k.says (λ d. h.yes_where (x.2 ∙ ap ok d)) (λ d. k.yes_where (x.3 ∙ ap ok d)) x.4;
+        rises x.0 x.1 h.says k.says (λ d. h.yes_where (x.2 ∙ ap Ok d)) (λ d. k.yes_where (x.3 ∙ ap Ok d)) x.4;
   }
 
 -- ---- the whole

@@ -1,5 +1,6 @@
 -- A fitted leaf: its answers by a row and by the record that the row is filed under, and by any partition record and by what its projection returns. Assumes
 -- nothing.
+use Rattle.std.specs.Prelude.{Ok}
 use Prim.Native.Nat.{ℕ}
 use native.Mathlib.Omega.{arith}
 use mathlib.Core.Bool.{Bool, true}
@@ -7,7 +8,7 @@ use mathlib.Core.List.{List}
 use mathlib.Core.Logic.{⊎_elim}
 use mathlib.Core.Path.{◌≡◌, refl, sym, subst, ◌∙◌}
 use lib.IntN.{ℤ}
-use Rattle.values.specs.Outcomes.{Res, ok, Row}
+use Rattle.values.specs.Outcomes.{Res, Row}
 use Rattle.values.specs.laws.OutcomeLaws.{passing, going, gone}
 use Rattle.values.specs.Types.{Layout, number, bytes, layout}
 use Rattle.values.specs.Words.{le_number, signed}
@@ -48,17 +49,17 @@ use Rattle.filterdemand.proofs.LeafKindLaws.{LeafLaws, part_held, by_part_return
 -- ---- a row that has a partition value has a result type, and its transform is known
 pub record Known (column : PrimitiveType) (transform : Transform) : Type 0 where
   pub to : PrimitiveType
-  pub result : result_type transform column ≡ ok to
+  pub result : result_type transform column ≡ Ok to
   pub is_known : known transform ≡ true
 
 module _ (column : PrimitiveType) (transform : Transform) where
-  row_known : (row : Row (List ℕ)) (p : List ℕ) → transformed_row column transform row ≡ ok p → Known column transform
+  row_known : (row : Row (List ℕ)) (p : List ℕ) → transformed_row column transform row ≡ Ok p → Known column transform
   unfolding transformed_row
   row_known row p e = go (layout column) e
     where
       go : (l : Layout)
           → by_layout l (λ n. transformed (numbers column transform n) column transform row) (transformed (byte_strings column transform) column transform row)
-          ≡ ok p
+          ≡ Ok p
           → Known column transform
       go (number n) e =
           let r = gone (read_row (read_number n) row) _ e in
@@ -71,12 +72,12 @@ module _ (column : PrimitiveType) (transform : Transform) where
           let u = gone (bytes_partition column transform r.0) _ t.2 in
           record { to = t.0; result = t.1; is_known = (bytes_row column transform r.0 u.0 u.1).0 }
 
-  value_known : (s v p : List ℕ) → head (type_in s) (transform_in s) (width_in s) ≡ ok (record { column = column; transform = transform })
+  value_known : (s v p : List ℕ) → head (type_in s) (transform_in s) (width_in s) ≡ Ok (record { column = column; transform = transform })
       → RowOf s p v → Known column transform
   unfolding transform_value
   value_known s v p head_is h = let r = gone (value (layout column) v) _ (sym (going _ head_is) ∙ h) in row_known r.0 p r.2
 
-  filed_known : (s v p : List ℕ) → head (type_in s) (transform_in s) (width_in s) ≡ ok (record { column = column; transform = transform })
+  filed_known : (s v p : List ℕ) → head (type_in s) (transform_in s) (width_in s) ≡ Ok (record { column = column; transform = transform })
       → Filed s p v → Known column transform
   filed_known s v p head_is d = ⊎_elim (λ h. value_known s v p head_is h) (λ x. value_known s v x.1.0 head_is x.1.2) d
 
@@ -87,17 +88,17 @@ module _ (l : Leaf) (fits : FitsIn l.head.column l.content) where
   abbrev transform : Transform
   transform = l.head.transform
 
-  bytes_read : read_bytes column l.content ≡ ok l.content
+  bytes_read : read_bytes column l.content ≡ Ok l.content
   bytes_read = passing NotUtf8 _ fits.held
 
   -- ---- a row, and a record that it is filed under
-  module _ (cells others : List Cell) (s v p : List ℕ) (head_is : head (type_in s) (transform_in s) (width_in s) ≡ ok l.head)
-      (value_is : value (layout column) v ≡ ok (row_at cells l.place))
-      (part_is : value (layout (type_or column (result_type transform column))) p ≡ ok (row_at others l.place)) where
+  module _ (cells others : List Cell) (s v p : List ℕ) (head_is : head (type_in s) (transform_in s) (width_in s) ≡ Ok l.head)
+      (value_is : value (layout column) v ≡ Ok (row_at cells l.place))
+      (part_is : value (layout (type_or column (result_type transform column))) p ≡ Ok (row_at others l.place)) where
     -- what the record is answered, by the leaf's kind
     by_kind : (question : Question) (P : Res Bool → Type 0) (has : Known column transform)
         → ((A B : Type 0) (k : Kind A B) (law : KindLaws column has.to transform k) → LeafLaws law → ((leaf : Predicate A) → Only Refusal (k.project Inclusive leaf))
-        → (x : A) → k.read l.content ≡ ok x → P (by_part k column transform question (predicate_in l) (row_at others l.place)))
+        → (x : A) → k.read l.content ≡ Ok x → P (by_part k column transform question (predicate_in l) (row_at others l.place)))
         → P (part_answer question others l)
     unfolding part_answer
     by_kind question P has f = go (layout column) refl
@@ -114,8 +115,8 @@ module _ (l : Leaf) (fits : FitsIn l.head.column l.content) where
             (bytes_leaf_lem column has.to transform n has.result is) (bytes_refusals column has.to transform n has.result has.is_known is)
             l.content bytes_read
 
-    part_read_lem : (has : Known column transform) → value (layout has.to) p ≡ ok (row_at others l.place)
-    part_read_lem has = subst (λ t. value (layout (type_or column t)) p ≡ ok (row_at others l.place)) has.result part_is
+    part_read_lem : (has : Known column transform) → value (layout has.to) p ≡ Ok (row_at others l.place)
+    part_read_lem has = subst (λ t. value (layout (type_or column t)) p ≡ Ok (row_at others l.place)) has.result part_is
 
     pub leaf_follows : Filed s p v → Follows (row_answer cells l) (part_answer Inclusive others l)
     unfolding row_answer
@@ -135,13 +136,13 @@ module _ (l : Leaf) (fits : FitsIn l.head.column l.content) where
 
   -- ---- any partition record
   module _ (question : Question) (others : List Cell) (p : List ℕ) (read : Row (List ℕ))
-      (part_is : value (layout (type_or column (result_type transform column))) p ≡ ok (row_at others l.place))
-      (read_is : read_row (read_bytes (type_or column (result_type transform column))) (row_at others l.place) ≡ ok read) where
+      (part_is : value (layout (type_or column (result_type transform column))) p ≡ Ok (row_at others l.place))
+      (read_is : read_row (read_bytes (type_or column (result_type transform column))) (row_at others l.place) ≡ Ok read) where
     abbrev raw : Row (List ℕ)
     raw = row_at others l.place
 
-    returned_by : {A B : Type 0} (k : Kind A B) (x : A) → k.read l.content ≡ ok x
-        → ((to : PrimitiveType) (q : Predicate B) → result_type transform column ≡ ok to → k.project question (test (binary l.operator x)) ≡ ok (some q)
+    returned_by : {A B : Type 0} (k : Kind A B) (x : A) → k.read l.content ≡ Ok x
+        → ((to : PrimitiveType) (q : Predicate B) → result_type transform column ≡ Ok to → k.project question (test (binary l.operator x)) ≡ Ok (some q)
         → (law : KindLaws column to transform k) × LeafLaws law)
         → by_part k column transform question (predicate_in l) raw ≡ by_returned question (projected k column transform question (predicate_in l)) p
     returned_by {A} {B} k x x_is laws =
@@ -151,8 +152,8 @@ module _ (l : Leaf) (fits : FitsIn l.head.column l.content) where
         let good = law.rows.reads l.content x fits.fit x_is in
         let landed : Landed law.rows.Good project_limit leaf = record { all = (good, tt); count = omega arith } in
         part_held law (laws to q result e).1 question leaf q landed e p raw read
-        (subst (λ t. value (layout (type_or column t)) p ≡ ok raw) result part_is)
-        (subst (λ t. read_row (read_bytes (type_or column t)) raw ≡ ok read) result read_is))
+        (subst (λ t. value (layout (type_or column t)) p ≡ Ok raw) result part_is)
+        (subst (λ t. read_row (read_bytes (type_or column t)) raw ≡ Ok read) result read_is))
 
     pub leaf_returned : part_answer question others l ≡ by_returned question (projected_leaf question column transform (predicate_in l)) p
     unfolding part_answer projected_leaf

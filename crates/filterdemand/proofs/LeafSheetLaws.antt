@@ -1,4 +1,5 @@
 -- The sheet of one leaf with one literal, as `Requests` writes it, is read back. Assumes nothing.
+use Rattle.std.specs.Prelude.{Ok}
 use Prim.Native.Nat.{ℕ, suc, ◌*◌, ◌%◌, ◌≤◌, ◌<◌}
 use native.Mathlib.Omega.{arith}
 use mathlib.Core.Bool.{true}
@@ -8,7 +9,6 @@ use lib.ListN.{length, length-append}
 use lib.Seq.{take_at}
 use borrow.Author.Tests.{lt-ltb, le-leb, eq-eqb}
 use Rattle.values.specs.Numbered.{find}
-use Rattle.values.specs.Outcomes.{ok}
 use Rattle.values.specs.laws.OutcomeLaws.{ok_inj, passing, going, gone}
 use Rattle.values.specs.laws.TypesLaws.{type_found, type_number_lem, transform_code, transform_found, transform_numbers}
 use Rattle.values.specs.laws.WordLaws.{number_bytes_lem}
@@ -96,10 +96,10 @@ held_numbers Void = (refl, refl)
 held_numbers Unknown = (refl, refl)
 
 -- ---- a sheet of two records, the second on the chain of the first
-two_records : (s : List ℕ) → record_count s ≡ 2 → next_in (record_at s 0) ≡ 1 → next_in (record_at s 1) ≡ 0 → chain (record_count s) s 0 ≡ ok (1 ∷ [])
+two_records : (s : List ℕ) → record_count s ≡ 2 → next_in (record_at s 0) ≡ 1 → next_in (record_at s 1) ≡ 0 → chain (record_count s) s 0 ≡ Ok (1 ∷ [])
 two_records s count first last = ap (λ n. chain n s 0) count ∙ rw (first, lt-ltb 1 (record_count s) (omega (arith, count)), last)
 
-module _ (type transform width : ℕ) (h : Head) (e : head type transform width ≡ ok h) where
+module _ (type transform width : ℕ) (h : Head) (e : head type transform width ≡ Ok h) where
   pub record Numbers : Type 0 where
     pub type_is : type_number h.column ≡ type
     pub transform_is : transform_code h.transform ≡ transform
@@ -119,7 +119,7 @@ module _ (type transform width : ℕ) (h : Head) (e : head type transform width 
       }
 
   head_back : head (le_number (le_bytes 1 type)) (le_number (le_bytes 1 transform)) (held_width width)
-      ≡ ok (record { column = h.column; transform = held_transform h.transform })
+      ≡ Ok (record { column = h.column; transform = held_transform h.transform })
   unfolding head
   head_back =
       let held = held_numbers h.transform in
@@ -144,11 +144,11 @@ module _ (type transform width : ℕ) (h : Head) (e : head type transform width 
     second : record_at s 1 ≡ literal_record 0 bs
     second = take_at (literal_record 0 bs) [] record_size literal_size_lem
 
-    on_chain : chain (record_count s) s 0 ≡ ok (1 ∷ [])
+    on_chain : chain (record_count s) s 0 ≡ Ok (1 ∷ [])
     on_chain = two_records s (omega (arith, size)) refl (ap next_in second)
 
     pub sheet_back : (most : ℕ) → 1 ≤ most
-        → sheet most s ≡ ok (read_sheet h.column (held_transform h.transform) (test (binary o bs)))
+        → sheet most s ≡ Ok (read_sheet h.column (held_transform h.transform) (test (binary o bs)))
     unfolding sheet fields
     sheet_back most room =
         let operator = operator_number (operator_of (one o)) in

@@ -1,10 +1,11 @@
 -- What a row is answered by a leaf and by `not` before it: the leaf fits its column, so that both are answered by the holds-test, the one of its operator and the
 -- other of the opposite. Assumes nothing.
+use Rattle.std.specs.Prelude.{Ok}
 use Prim.Native.Nat.{ℕ}
 use mathlib.Core.Bool.{Bool, not}
 use mathlib.Core.List.{List}
 use mathlib.Core.Path.{◌≡◌, refl, sym, ap, subst, ◌∙◌}
-use Rattle.values.specs.Outcomes.{Res, ok, Row, missing, present}
+use Rattle.values.specs.Outcomes.{Res, Row, missing, present}
 use Rattle.values.specs.laws.OutcomeLaws.{passing, going, gone}
 use Rattle.values.specs.Types.{Layout, number, bytes, layout}
 use Rattle.values.specs.declared.error.ErrorKind.TheVariants.{NotUtf8}
@@ -27,21 +28,21 @@ use Rattle.filterdemand.proofs.FilterDemandProof.{columns_of, all_fitted, leaf_c
 
 -- what an operator and its opposite are answered: by a missing value what it meets, by a present one the one and not the other
 abbrev Answers : Binary → Row (List ℕ) → Res Bool → Res Bool → Type 0
-Answers o missing a b = (a ≡ ok (missing_meets (one o))) × (b ≡ ok (missing_meets (one (opposite_binary o))))
-Answers o (present v) a b = (y : Bool) × (a ≡ ok y) × (b ≡ ok (not y))
+Answers o missing a b = (a ≡ Ok (missing_meets (one o))) × (b ≡ Ok (missing_meets (one (opposite_binary o))))
+Answers o (present v) a b = (y : Bool) × (a ≡ Ok y) × (b ≡ Ok (not y))
 
-module _ {A : Type 0} (by : Tests A) (read : List ℕ → Res A) (o : Binary) (content : List ℕ) (x : A) (read_is : read content ≡ ok x) where
+module _ {A : Type 0} (by : Tests A) (read : List ℕ → Res A) (o : Binary) (content : List ℕ) (x : A) (read_is : read content ≡ Ok x) where
   abbrev asked : Binary → Row (List ℕ) → Res Bool
   asked o row = tested by read (test (binary o content)) row
 
-  both_tested : (row : Row (List ℕ)) (r : Row A) → read_row read row ≡ ok r → Answers o row (asked o row) (asked (opposite_binary o) row)
+  both_tested : (row : Row (List ℕ)) (r : Row A) → read_row read row ≡ Ok r → Answers o row (asked o row) (asked (opposite_binary o) row)
   both_tested missing r e = (going _ (going _ read_is), going _ (going _ read_is))
   both_tested (present v) r e =
       let y = gone (read v) _ e in
-      let value_is = going (λ z. ok (present z)) y.1 in (
+      let value_is = going (λ z. Ok (present z)) y.1 in (
         meets by (binary o x) y.0,
         going _ (going _ read_is) ∙ going _ value_is,
-        going _ (going _ read_is) ∙ going _ value_is ∙ ap ok (meets_opposite by (binary o x) y.0),
+        going _ (going _ read_is) ∙ going _ value_is ∙ ap Ok (meets_opposite by (binary o x) y.0),
       )
 
 module _ (c t u v : List ℕ) (h : LeafAndNot c t u v) where
@@ -85,13 +86,13 @@ missing_meets_one : MissingMeetsOne
 missing_meets_one c t u v h e unordered =
     let both = answered_by_lem c t u v h missing e in
     let o = h.found.operator in
-    (missing_meets (one o), both.0, both.1 ∙ ap ok (missing_opposite o unordered))
+    (missing_meets (one o), both.0, both.1 ∙ ap Ok (missing_opposite o unordered))
 
 missing_meets_neither : MissingMeetsNeither
 missing_meets_neither c t u v h e order =
     let both = answered_by_lem c t u v h missing e in
     let neither = missing_unordered h.found.operator order in
-    (both.0 ∙ ap ok neither.0, both.1 ∙ ap ok neither.1)
+    (both.0 ∙ ap Ok neither.0, both.1 ∙ ap Ok neither.1)
 
 pub not_of_leaf : NotOfLeaf
 not_of_leaf = record { present_meets_one = present_meets_one; missing_meets_one = missing_meets_one; missing_meets_neither = missing_meets_neither }

@@ -1,5 +1,6 @@
 -- What is stated of filters over files of older writers is about something: a column list, a text, a row and a partition value that it is filed under. And a filter
 -- whose strict question says yes of a partition value that a row is filed under which fails it. Assumes nothing.
+use Rattle.std.specs.Prelude.{Ok}
 use Prim.Native.Nat.{ℕ}
 use mathlib.Core.Bool.{true, false}
 use mathlib.Core.List.{List, [], ◌∷◌, map, Memᴰ as Isin}
@@ -7,7 +8,7 @@ use mathlib.Core.Path.{◌≡◌, refl, sym, subst, ◌∙◌}
 use lib.IntN.{ℤ, pos, negsuc}
 use Rattle.values.specs.Characters.{ascii}
 use Rattle.values.specs.Order.{compare_numbers, compare_bytes}
-use Rattle.values.specs.Outcomes.{ok, ◌>>=◌, present}
+use Rattle.values.specs.Outcomes.{◌>>=◌, present}
 use Rattle.values.specs.laws.OutcomeLaws.{ok_inj, going}
 use Rattle.values.specs.Transforms.{transform_of}
 use Rattle.values.specs.Types.{in_type}
@@ -52,7 +53,7 @@ nought = value_of (int (pos 0))
 abbrev cells_with : ℤ → List Cell
 cells_with z = record { column = record { name = ascii "a"; head = record { column = Date; transform = Year } }; row = present (int z) } ∷ []
 
-cells_are : (cells_of rows dates last_of1969 ≡ ok (cells_with (negsuc 0))) × (cells_of parts dates nought ≡ ok (cells_with (pos 0)))
+cells_are : (cells_of rows dates last_of1969 ≡ Ok (cells_with (negsuc 0))) × (cells_of parts dates nought ≡ Ok (cells_with (pos 0)))
 unfolding cells_of columns column fields head transform_of value content compare_bytes result_type
 cells_are = (refl, refl)
 
@@ -60,7 +61,7 @@ cells_are = (refl, refl)
 filed : Filed (head_at dates 0) (record_at nought 0) (record_at last_of1969 0)
 filed = (filed_above 0 (pos 0)).0
 
-filed_rows : (t : List ℕ) → (filter_in (map (λ x. x.column) (cells_with (negsuc 0))) t >>= λ f. ok (places_in f)) ≡ ok (0 ∷ []) → FiledRows dates t last_of1969 nought
+filed_rows : (t : List ℕ) → (filter_in (map (λ x. x.column) (cells_with (negsuc 0))) t >>= λ f. Ok (places_in f)) ≡ Ok (0 ∷ []) → FiledRows dates t last_of1969 nought
 filed_rows t e = record {
   cells = cells_with (negsuc 0);
   row_cells_lem = cells_are.0;
@@ -76,24 +77,24 @@ equals = ascii "a = -1"
 abbrev from : List ℕ
 from = ascii "a >= 0"
 
-places : ((filter_in (map (λ x. x.column) (cells_with (negsuc 0))) equals >>= λ f. ok (places_in f)) ≡ ok (0 ∷ []))
-    × ((filter_in (map (λ x. x.column) (cells_with (negsuc 0))) from >>= λ f. ok (places_in f)) ≡ ok (0 ∷ []))
+places : ((filter_in (map (λ x. x.column) (cells_with (negsuc 0))) equals >>= λ f. Ok (places_in f)) ≡ Ok (0 ∷ []))
+    × ((filter_in (map (λ x. x.column) (cells_with (negsuc 0))) from >>= λ f. Ok (places_in f)) ≡ Ok (0 ∷ []))
 unfolding filter_in symbols disjunction conjunction single in_type compare_bytes
 places = (refl, refl)
 
-row_answers : (filter_row dates equals last_of1969 ≡ ok true) × (filter_row dates from last_of1969 ≡ ok false)
+row_answers : (filter_row dates equals last_of1969 ≡ Ok true) × (filter_row dates from last_of1969 ≡ Ok false)
 unfolding filter_row cells_of columns column fields head transform_of value content compare_bytes
     filter_in symbols disjunction conjunction single in_type row_answer tested_sheet compare_numbers
 row_answers = (refl, refl)
 
-strict_yes : filter_parts Strict dates from nought ≡ ok true
+strict_yes : filter_parts Strict dates from nought ≡ Ok true
 unfolding filter_parts cells_of columns column fields head transform_of value content compare_bytes result_type
     filter_in symbols disjunction conjunction single in_type part_answer project_numbers compare_numbers
     transform_number day_of floor_div in_calendar year_of civil_year shift year_at cycle_year count_off year_length leap
 strict_yes = refl
 
-pub loses_no_older_row_asks : (c t v p : List ℕ) × FiledRows c t v p × (filter_row c t v ≡ ok true)
+pub loses_no_older_row_asks : (c t v p : List ℕ) × FiledRows c t v p × (filter_row c t v ≡ Ok true)
 loses_no_older_row_asks = (dates, equals, last_of1969, nought, filed_rows equals places.0, row_answers.0)
 
-pub filter_strict_lets_one_in : (c t v p : List ℕ) × FiledRows c t v p × (filter_parts Strict c t p ≡ ok true) × (filter_row c t v ≡ ok false)
+pub filter_strict_lets_one_in : (c t v p : List ℕ) × FiledRows c t v p × (filter_parts Strict c t p ≡ Ok true) × (filter_row c t v ≡ Ok false)
 filter_strict_lets_one_in = (dates, from, last_of1969, nought, filed_rows from places.1, strict_yes, row_answers.1)

@@ -1,5 +1,6 @@
 -- What is shown of filters of one leaf, and of 7, is about something: for each clause a column list, a text and values that meet what it asks; and a filter of one leaf
 -- without a predicate, which is strictly no where its row meets it. Assumes nothing.
+use Rattle.std.specs.Prelude.{Ok, Err}
 use Prim.Native.Nat.{ℕ}
 use mathlib.Core.Bool.{true, false}
 use mathlib.Core.List.{List}
@@ -7,7 +8,7 @@ use mathlib.Core.Path.{◌≡◌, refl}
 use lib.IntN.{pos}
 use Rattle.values.specs.Characters.{ascii}
 use Rattle.values.specs.Order.{compare_numbers, compare_bytes}
-use Rattle.values.specs.Outcomes.{ok, err, missing}
+use Rattle.values.specs.Outcomes.{missing}
 use Rattle.values.specs.Transforms.{transform_of}
 use Rattle.values.specs.Types.{in_type}
 use Rattle.values.specs.Words.{AllBytes}
@@ -56,13 +57,13 @@ are_leaf = (
   (opposite (leaf (record { place = 0; head = head_of_a; operator = greater_than_or_eq; content = int (pos 300) })), refl, refl),
 )
 
-pub one_leaf_row_asks : (c t v : List ℕ) × (cells : List Cell) × (l : Leaf) × (cells_of rows c v ≡ ok cells) × IsOneLeaf cells t l
+pub one_leaf_row_asks : (c t v : List ℕ) × (cells : List Cell) × (l : Leaf) × (cells_of rows c v ≡ Ok cells) × IsOneLeaf cells t l
 one_leaf_row_asks = (list, twice, row, row_cells, below300, row_cells_lem, are_leaf.0)
 
 list_bytes : AllBytes list
 list_bytes = looked_at list refl
 
-pub one_leaf_parts_asks : (c t p : List ℕ) × (cells : List Cell) × (l : Leaf) × AllBytes c × (cells_of parts c p ≡ ok cells) × IsOneLeaf cells t l
+pub one_leaf_parts_asks : (c t p : List ℕ) × (cells : List Cell) × (l : Leaf) × AllBytes c × (cells_of parts c p ≡ Ok cells) × IsOneLeaf cells t l
 one_leaf_parts_asks = (list, turned_back, part, part_cells, below300, list_bytes, part_cells_lem, are_leaf.1)
 
 -- the leaf's sheet is that of demand 3's witnesses, and so are its row 5 and its partition value 0
@@ -108,27 +109,27 @@ one_leaf_inclusive_is_exact_asks = (
 abbrev ones : List ℕ
 ones = entry (ascii "a") 1 1 1
 
-is5_row : filter_row ones (ascii "a = 5") (value_of (int (pos 5))) ≡ ok true
+is5_row : filter_row ones (ascii "a = 5") (value_of (int (pos 5))) ≡ Ok true
 unfolding filter_row cells_of columns column fields head transform_of value content compare_bytes
     filter_in symbols disjunction conjunction single in_type row_answer tested_sheet compare_numbers
 is5_row = refl
 
-is5_strict : filter_parts Strict ones (ascii "a = 5") (value_of (int (pos 5))) ≡ ok false
+is5_strict : filter_parts Strict ones (ascii "a = 5") (value_of (int (pos 5))) ≡ Ok false
 unfolding filter_parts cells_of columns column fields head transform_of value content compare_bytes result_type
     filter_in symbols disjunction conjunction single in_type part_answer project_numbers transform_number truncated floor_mod compare_numbers
 is5_strict = refl
 
-pub without_a_predicate : (c t v p : List ℕ) × (filter_row c t v ≡ ok true) × (filter_parts Strict c t p ≡ ok false)
+pub without_a_predicate : (c t v p : List ℕ) × (filter_row c t v ≡ Ok true) × (filter_parts Strict c t p ≡ Ok false)
 without_a_predicate = (ones, ascii "a = 5", value_of (int (pos 5)), value_of (int (pos 5)), is5_row, is5_strict)
 
 -- ---- 7: the transform of a is Unknown
 abbrev unknowns : List ℕ
 unknowns = entry (ascii "a") 1 7 0
 
-seven : (question : Question) → filter_parts question unknowns (ascii "a = 5") (value_record missing) ≡ err FeatureUnsupported
+seven : (question : Question) → filter_parts question unknowns (ascii "a = 5") (value_record missing) ≡ Err FeatureUnsupported
 unfolding filter_parts cells_of columns column fields head transform_of value compare_bytes result_type
     filter_in symbols disjunction conjunction single in_type part_answer project_numbers
 seven question = refl
 
-pub filter_seven_asks : (question : Question) → (c t p : List ℕ) × (filter_parts question c t p ≡ err FeatureUnsupported)
+pub filter_seven_asks : (question : Question) → (c t p : List ℕ) × (filter_parts question c t p ≡ Err FeatureUnsupported)
 filter_seven_asks question = (unknowns, ascii "a = 5", value_record missing, seven question)

@@ -1,6 +1,6 @@
 -- Filters: leaves with and, or, not and brackets between them; what `not` makes of one, and what one is answered. Assumes nothing.
-use Rattle.std.specs.Prelude.{ℕ, suc, ◌+◌, max, Bool, ◌&&◌, ◌||◌, ◌≡◌, refl}
-use Rattle.values.specs.Outcomes.{Res, ok, ◌>>=◌}
+use Rattle.std.specs.Prelude.{ℕ, suc, ◌+◌, max, Bool, ◌&&◌, ◌||◌, ◌≡◌, refl, Ok}
+use Rattle.values.specs.Outcomes.{Res, ◌>>=◌}
 
 -- a filter as it is written: brackets are kept, so that open ones can be counted
 pub data Filter (L : Type 0) : Type 0 where
@@ -62,7 +62,7 @@ abbrev pub joined : {A : Type 0} → (A → A → A) → Res A → Res A → Res
 joined join a b = do
   x ← a
   y ← b
-  ok (join x y)
+  Ok (join x y)
 
 abbrev pub answered : {L : Type 0} → (L → Res Bool) → Turned L → Res Bool
 answered ask (one l) = ask l

@@ -16,6 +16,7 @@ pub fn read_full<R: Read>(input: &mut R, buf: &mut [u8]) -> io::Result<usize>
     ensures failed { OnErr result (length buf.new ≡ length buf.old) }
 {
     let mut done = 0;
+    // A loop over reads, whose lengths the input chooses, so that no iterator goes over them; `read_exact` refuses an input that ends early.
     while done < buf.len() {
         let n = input.read(&mut buf[done..])?;
         if n == 0 {

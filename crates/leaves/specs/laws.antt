@@ -1,3 +1,4 @@
 -- The laws about the definitions of `leaves`.
 pub mod SymbolLaws
+pub mod NamedLeafLaws
 pub mod TextLaws

@@ -1,3 +1,2 @@
 -- Lemmas that several proofs share.
-pub mod HeldArms
 pub mod RowTests

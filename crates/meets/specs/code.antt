@@ -1,2 +1,2 @@
--- What the enums and the arrays of the code of `meets` mean, as the definitions have it.
-pub mod HeldAnswers
+-- What the code of `meets` knows of a sheet, as the definitions have it.
+pub mod Leaves

@@ -1,94 +1,65 @@
-// Whether a value meets an operator with the literals of a sheet, by their records.
-ghost use Rattle.std.specs.Prelude.{◌≡◌, true};
+// Whether a value meets an operator with the literals of a sheet.
+ghost use Rattle.std.specs.Prelude.{◌≡◌};
 ghost use Rattle.values.specs.Ascending.{elem};
 ghost use Rattle.values.specs.Order.{compare_numbers, compare_bytes};
-ghost use Rattle.values.specs.Types.{layout};
-ghost use Rattle.meets.specs.code.HeldAnswers.{number_meets, bytes_meets};
-ghost use Rattle.sheet.specs.code.ReadAnswers.{Placed, contents_at, numbers_at};
+ghost use Rattle.expr.specs.Holds.{number_tests, bytes_tests, present_meets};
+ghost use Rattle.sheet.specs.code.SheetAnswers.{contents_of, numbers_of};
+ghost use Rattle.meets.specs.code.Leaves.{number_leaf, content_leaf};
 
 use expr::operator::PredicateOperator;
 use expr::test::{bytes_meets, number_meets};
-use sheet::literal::{content_of, number_of, record_of};
+use sheet::literals::Literals;
 use sheet::sheet::Sheet;
-use values::datatypes::PrimitiveType;
-use values::order::{Ordering, compare_bytes};
 
-// Whether a number equals one of the literals in the first count records.
-pub fn number_among(s: &[u8], records: &[u16], count: usize, column: PrimitiveType, v: i64) -> bool
-    requires { Placed (layout column) s.now records.now count }
-    ensures { result ≡ elem compare_numbers v (numbers_at (layout column) s.now records.now count) }
+// Whether a number equals one of the literals. Numbers and byte strings are tested apart: a trait of both would take more lines than the two loops and the two
+// matches that it would spare.
+#[tactic(auto, using(sheet::proofs::Turns::equal_here, sheet::proofs::Turns::other_here, std::proofs::lemmas::Grind::common_steps))]
+pub fn number_among(literals: Literals, v: i64) -> bool
+    ensures { result ≡ elem compare_numbers v (numbers_of literals.entry) }
 {
-    let mut i = 0;
-    while i < count {
-        if number_of(s, record_of(records, i), column) == v {
+    for i in 0..literals.len() {
+        if v == literals.number(i) {
             return true;
         }
-        i += 1;
     }
     false
 }
 
 // The same for a byte string.
-pub fn bytes_among(s: &[u8], records: &[u16], count: usize, column: PrimitiveType, v: &[u8]) -> bool
-    requires { Placed (layout column) s.now records.now count }
-    ensures { result ≡ elem compare_bytes v.now (contents_at s.now records.now count) }
+#[tactic(auto, using(crate::specs::laws::EqualBytesLaws::slices_equal, std::proofs::lemmas::Grind::common_steps))]
+pub fn bytes_among(literals: Literals, v: &[u8]) -> bool
+    ensures { result ≡ elem compare_bytes v.now (contents_of literals.entry) }
 {
-    let mut i = 0;
-    while i < count {
-        if let Ordering::Equal = compare_bytes(v, content_of(s, record_of(records, i))) {
+    for i in 0..literals.len() {
+        if v == literals.content(i) {
             return true;
         }
-        i += 1;
     }
     false
 }
 
-// Whether a present number meets an operator with those literals.
-pub fn number_holds(x: Sheet, s: &[u8], records: &[u16], v: i64) -> bool
-    requires { Placed (layout x.head.column) s.now records.now x.count }
-    ensures { result ≡ number_meets x s.now records.now v }
+// Whether a present number meets a sheet's operator with its literals.
+pub fn number_holds(x: &Sheet, v: i64) -> bool
+    ensures { result ≡ present_meets number_tests (number_leaf x.now) v }
 {
-    let head = x.head;
-    let operator = head.operator;
-    let column = head.column;
-    let count = x.count;
-    match operator {
-        PredicateOperator::IsNull => false,
-        PredicateOperator::NotNull => true,
-        PredicateOperator::IsNan => false,
-        PredicateOperator::NotNan => true,
-        PredicateOperator::In => number_among(s, records, count, column, v),
-        PredicateOperator::NotIn => !number_among(s, records, count, column, v),
-        _ => {
-            if count == 0 {
-                return false;
-            }
-            number_meets(operator, v, number_of(s, record_of(records, 0), column))
-        }
+    match x.operator {
+        PredicateOperator::IsNull | PredicateOperator::IsNan => false,
+        PredicateOperator::NotNull | PredicateOperator::NotNan => true,
+        PredicateOperator::In => number_among(x.literals, v),
+        PredicateOperator::NotIn => !number_among(x.literals, v),
+        _ => number_meets(x.operator, v, x.literals.number(0)),
     }
 }
 
-// Whether a present byte string meets an operator with those literals.
-pub fn bytes_holds(x: Sheet, s: &[u8], records: &[u16], v: &[u8]) -> bool
-    requires { Placed (layout x.head.column) s.now records.now x.count }
-    ensures { result ≡ bytes_meets x s.now records.now v.now }
+// Whether a present byte string meets a sheet's operator with its literals.
+pub fn bytes_holds(x: &Sheet, v: &[u8]) -> bool
+    ensures { result ≡ present_meets bytes_tests (content_leaf x.now) v.now }
 {
-    let head = x.head;
-    let operator = head.operator;
-    let column = head.column;
-    let count = x.count;
-    match operator {
-        PredicateOperator::IsNull => false,
-        PredicateOperator::NotNull => true,
-        PredicateOperator::IsNan => false,
-        PredicateOperator::NotNan => true,
-        PredicateOperator::In => bytes_among(s, records, count, column, v),
-        PredicateOperator::NotIn => !bytes_among(s, records, count, column, v),
-        _ => {
-            if count == 0 {
-                return false;
-            }
-            bytes_meets(operator, v, content_of(s, record_of(records, 0)))
-        }
+    match x.operator {
+        PredicateOperator::IsNull | PredicateOperator::IsNan => false,
+        PredicateOperator::NotNull | PredicateOperator::NotNan => true,
+        PredicateOperator::In => bytes_among(x.literals, v),
+        PredicateOperator::NotIn => !bytes_among(x.literals, v),
+        _ => bytes_meets(x.operator, v, x.literals.content(0)),
     }
 }

@@ -1,6 +1,6 @@
--- Lemmas that several proofs of this crate, or of one above it, share.
+-- Lemmas that several proofs of this crate share.
+pub mod Values
 pub mod Skims
-pub mod Ahead
+pub mod Aheads
 pub mod Loops
 pub mod Singles
-pub mod LeafAsks

@@ -1,167 +1,155 @@
--- The loops of or and of and, with the symbol after each filter: one law for both. Assumes nothing.
-use Prim.Native.Nat.{ℕ, ◌+◌, ◌-◌, ◌≤◌, ◌<◌, max}
-use native.Mathlib.Omega.{arith}
-use mathlib.Core.Bool.{Bool, true, false, not}
-use mathlib.Core.List.{List, ◌∷◌}
-use mathlib.Core.Path.{◌≡◌, refl, ap, subst, ◌∙◌}
-use lib.ListN.{length}
-use Rattle.values.specs.laws.TestLaws.{clash}
+-- The loop of or and of and, with the symbol after each filter: one law for both. Assumes nothing.
+use Rattle.std.proofs.Common.{ℕ, ◌+◌, max, Bool, true, false, List, [], ◌∷◌, ◌≡◌, ◌≢◌, refl, sym, ◌∙◌, length, drop, None}
+use Rattle.columns.specs.Columns.{Column}
 use Rattle.grammar.specs.Filters.{Filter, either, both, leaves, depth, joined, answered}
-use Rattle.grammar.specs.Grammar.{Symbol, and_word, or_word}
-use Rattle.grammar.specs.Parser.{Parser, is_and, is_or, chain, single, conjunction}
+use Rattle.grammar.specs.Grammar.{Symbol, leaf_of, and_word, or_word, not_word, opening, closing, unreadable}
+use Rattle.grammar.specs.Parser.{Parser, is_and, is_or, chain, conjunction, disjunction}
 use Rattle.grammar.specs.laws.ChainLaws.{begins}
 use Rattle.grammar.specs.laws.FilterLaws.{read, join_as, answered_either, answered_both}
 use Rattle.leaves.specs.Fitting.{Leaf}
-use Rattle.leaves.specs.code.SymbolAnswers.{is_symbol}
-use Rattle.leaves.specs.declared.symbol.SymbolKind.{SymbolKind}
-use Rattle.leaves.specs.declared.symbol.SymbolKind.TheVariants as kind
-use Rattle.ask.specs.declared.asked.Asked.{Asked}
-use Rattle.columns.specs.code.ColumnAnswers.{columns_in}
-use Rattle.parse.specs.FilterText.{bracket_limit, turn}
-use Rattle.parse.specs.code.FilterReads.{after, ask, join_read, Seen, Looks, Ready, Reads}
-use Rattle.parse.specs.code.Reading.{filter_to, Finds}
+use Rattle.leaves.specs.Symbols.{symbols}
+use Rattle.parse.specs.FilterText.{turn}
+use Rattle.parse.specs.code.FilterReads.{after, ask, columns_of, Seen, parser_of, part_of, ReadsOne, Reads}
+use Rattle.parse.specs.code.Reading.{all_of, join_read, FindsNone}
+use Rattle.parse.specs.declared.read.Ahead.{Ahead}
+use Rattle.parse.specs.declared.read.Ahead.TheVariants as ahead
 use Rattle.parse.specs.declared.read.Read.{Read}
+use Rattle.parse.specs.declared.read.Word.{Word}
+use Rattle.parse.specs.declared.read.Word.TheVariants.{And, Or}
+use Rattle.parse.specs.declared.request.Request.{Request}
+use Rattle.parse.proofs.Aheads.{symbol_of, IsOther, Goes, Shows, shows}
 use Rattle.parse.specs.laws.ReadingLaws.{Chained, first_none, first_one, chain_done, right_none, right_one}
-use Rattle.parse.proofs.Ahead.{is_kind, and_seen, or_seen, seen_forward, seen_within, seen_and, seen_or, symbol_found}
-
--- a filter that was found is what its fields say
-as_filter : (r : Read) → r.found ≡ true → filter_to r.next r.leaves r.deep r.answer r.ahead r.past ≡ r
-as_filter r e = rw (← e)
-
-pub ready_at : {a : Asked} {c v s : List ℕ} {count at opened : ℕ} → Ready a c v s count at opened → (next : ℕ) → next ≤ length s → Ready a c v s count next opened
-ready_at h next within = record { counted = h.counted; values = h.values; within = within; few = h.few }
-
-pub ready_within : {a : Asked} {c v s : List ℕ} {count at opened : ℕ} → Ready a c v s count at opened → (opened ≡ bracket_limit → ⊥) → Ready a c v s count at (opened + 1)
-ready_within h fewer = record { counted = h.counted; values = h.values; within = h.within; few = omega (arith, h.few) }
 
 -- ---- the two words
 
-module _ (a : Asked) (c v s : List ℕ) where
-  -- a word between two parts of a filter: what it makes of them, and how it is seen
-  pub record Word (negate : Bool) : Type 0 where
-    pub is_word : Symbol Leaf → Bool
-    pub join : Filter Leaf → Filter Leaf → Filter Leaf
-    pub all : Bool
-    pub part : ℕ → Parser Leaf
-    pub folds : (f g : Filter Leaf)
-        → answered (ask a c v s) (read turn negate (join f g))
-        ≡ joined (join_as all) (answered (ask a c v s) (read turn negate f)) (answered (ask a c v s) (read turn negate g))
-    pub deepens : (f g : Filter Leaf) → depth (join f g) ≡ max (depth f) (depth g)
-    pub adds : (f g : Filter Leaf) → leaves (join f g) ≡ leaves f + leaves g
-    pub symbol : Symbol Leaf
-    pub is : is_word symbol ≡ true
-    pub own : SymbolKind
-    pub readable : is_symbol own ≡ true
-    pub seen : (next : ℕ) (ahead : SymbolKind) (past : ℕ) → Seen (columns_in c) s next ahead past → begins is_word (after a c v s next) ≡ is_kind own ahead
-    pub onward : (next : ℕ) (ahead : SymbolKind) (past : ℕ) → Seen (columns_in c) s next ahead past → ahead ≡ own
-        → (next < past) × (after a c v s next ≡ symbol ∷ after a c v s past)
+abbrev is_word : Word → Symbol Leaf → Bool
+is_word And = is_and
+is_word Or = is_or
 
-  abbrev pub or_word_lem : (negate : Bool) → Word negate
-  or_word_lem negate = record {
-    is_word = is_or;
-    join = either;
-    all = negate;
-    part = conjunction;
-    folds = answered_either turn (ask a c v s) negate;
-    deepens = λ f g. refl;
-    adds = λ f g. refl;
-    symbol = or_word;
-    is = refl;
-    own = kind.Or;
-    readable = refl;
-    seen = λ next ahead past h. or_seen h;
-    onward = λ next ahead past h e. (seen_forward h kind.Or e refl, seen_or h e);
+abbrev join_of : Word → Filter Leaf → Filter Leaf → Filter Leaf
+join_of And = both
+join_of Or = either
+
+own_word : (word : Word) → is_word word (symbol_of word) ≡ true
+own_word And = refl
+own_word Or = refl
+
+pub deepens : (word : Word) (f g : Filter Leaf) → depth (join_of word f g) ≡ max (depth f) (depth g)
+deepens And f g = refl
+deepens Or f g = refl
+
+pub adds : (word : Word) (f g : Filter Leaf) → leaves (join_of word f g) ≡ leaves f + leaves g
+adds And f g = refl
+adds Or f g = refl
+
+chain_is : (word : Word) (n : ℕ) (ts : List (Symbol Leaf)) → chain (is_word word) (join_of word) (part_of word n) ts ≡ parser_of word n ts
+unfolding conjunction disjunction
+chain_is And n ts = refl
+chain_is Or n ts = refl
+
+other_begins : (word : Word) (ts : List (Symbol Leaf)) → IsOther ts → begins (is_word word) ts ≡ false
+other_begins And [] o = elim o [ ]
+other_begins And (and_word ∷ ts) o = elim o [ ]
+other_begins And (or_word ∷ ts) o = elim o [ ]
+other_begins And (closing ∷ ts) o = elim o [ ]
+other_begins Or [] o = elim o [ ]
+other_begins Or (and_word ∷ ts) o = elim o [ ]
+other_begins Or (or_word ∷ ts) o = elim o [ ]
+other_begins Or (closing ∷ ts) o = elim o [ ]
+other_begins And (leaf_of l ∷ ts) o = refl
+other_begins And (not_word ∷ ts) o = refl
+other_begins And (opening ∷ ts) o = refl
+other_begins And (unreadable ∷ ts) o = refl
+other_begins Or (leaf_of l ∷ ts) o = refl
+other_begins Or (not_word ∷ ts) o = refl
+other_begins Or (opening ∷ ts) o = refl
+other_begins Or (unreadable ∷ ts) o = refl
+
+-- what stands after a filter is no such word
+no_word : (word : Word) (cs : List Column) (s : List ℕ) (next past : ℕ) (k : Ahead) → Shows cs s next k past → k ≢ ahead.Word word
+    → begins (is_word word) (symbols cs (drop next s)) ≡ false
+no_word word cs s next past ahead.End seen other = rw seen refl
+no_word And cs s next past (ahead.Word And) seen other = absurd (other refl)
+no_word And cs s next past (ahead.Word Or) seen other = rw seen.0 refl
+no_word Or cs s next past (ahead.Word And) seen other = rw seen.0 refl
+no_word Or cs s next past (ahead.Word Or) seen other = absurd (other refl)
+no_word And cs s next past ahead.Closing seen other = rw seen.0 refl
+no_word Or cs s next past ahead.Closing seen other = rw seen.0 refl
+no_word word cs s next past ahead.Other seen other = other_begins word _ seen
+
+module _ (q : Request) (word : Word) (negate : Bool) where
+  pub folds : (f g : Filter Leaf)
+      → answered (ask q) (read turn negate (join_of word f g))
+      ≡ joined (join_as (all_of word negate)) (answered (ask q) (read turn negate f)) (answered (ask q) (read turn negate g))
+  folds f g = go word
+    where
+      go : (word : Word) → answered (ask q) (read turn negate (join_of word f g))
+          ≡ joined (join_as (all_of word negate)) (answered (ask q) (read turn negate f)) (answered (ask q) (read turn negate g))
+      go And = answered_both turn (ask q) negate f g
+      go Or = answered_either turn (ask q) negate f g
+
+  module _ (opened : ℕ) where
+    abbrev ChainedTo : ℕ → Read → Type 0
+    ChainedTo at left =
+        Chained (after q) (length q.text.now) (ask q) negate opened (is_word word) (join_of word) (all_of word negate) (part_of word)
+        folds (deepens word) (adds word) at left
+
+    -- what is known where the loop begins a turn
+    pub record Chaining (at : ℕ) (left : Read) : Type 0 where
+      pub chained : ChainedTo at left
+      pub seen : Seen (columns_of q) q.text.now left.next left.ahead left.past
+
+-- ---- the loop
+module _ (q : Request) (word : Word) (negate : Bool) (opened at : ℕ) where
+  abbrev Chain : ℕ → Parser Leaf
+  Chain n = chain (is_word word) (join_of word) (part_of word n)
+
+  none_read : FindsNone (after q) (length q.text.now) (ask q) Chain at → Reads q (parser_of word) at negate opened None
+  none_read h n m = sym (chain_is word n (after q at)) ∙ h n m
+
+  pub first_missed : Reads q (part_of word) at negate opened None → Reads q (parser_of word) at negate opened None
+  first_missed h =
+      none_read (first_none (after q) (length q.text.now) (ask q) negate opened (is_word word) (join_of word) (all_of word negate) (part_of word)
+      (folds q word negate) (deepens word) (adds word) h)
+
+  pub first_read : (r : Read) → ReadsOne q (part_of word) at negate opened r → Chaining q word negate opened at r
+  first_read r h = record {
+    chained = first_one (after q) (length q.text.now) (ask q) negate opened (is_word word) (join_of word) (all_of word negate) (part_of word)
+        (folds q word negate) (deepens word) (adds word) h.one;
+    seen = h.seen;
   }
 
-  abbrev pub and_word_lem : (negate : Bool) → Word negate
-  and_word_lem negate = record {
-    is_word = is_and;
-    join = both;
-    all = not negate;
-    part = single;
-    folds = answered_both turn (ask a c v s) negate;
-    deepens = λ f g. refl;
-    adds = λ f g. refl;
-    symbol = and_word;
-    is = refl;
-    own = kind.And;
-    readable = refl;
-    seen = λ next ahead past h. and_seen h;
-    onward = λ next ahead past h e. (seen_forward h kind.And e refl, seen_and h e);
-  }
-
--- ---- a loop
-
-module _ {a : Asked} {c v s : List ℕ} {negate : Bool} (w : Word a c v s negate) (opened : ℕ) where
-  abbrev pub Chain : ℕ → Parser Leaf
-  Chain n = chain w.is_word w.join (w.part n)
-
-  abbrev FindsChain : ℕ → Read → Type 0
-  FindsChain at r = Finds (after a c v s) (length s) (ask a c v s) Chain at negate opened r
-
-  abbrev ChainedTo : ℕ → Read → Type 0
-  ChainedTo at left =
-      Chained (after a c v s) (length s) (ask a c v s) negate opened w.is_word w.join w.all w.part w.folds w.deepens w.adds at left.next
-      left.deep left.leaves left.answer
-
-  -- what is known where the loop begins a turn
-  pub record Chaining (at : ℕ) (left : Read) : Type 0 where
-    pub one : left.found ≡ true → ChainedTo at left
-    pub none : left.found ≡ false → FindsChain at left
-    pub looks : Looks (columns_in c) s left
-
-  module _ {at : ℕ} {r : Read} (h : Reads a c v s w.part at negate opened r) where
-    pub first_read : Chaining at r
-    first_read = record {
-      one = λ e. first_one _ _ _ negate opened w.is_word w.join w.all w.part w.folds w.deepens w.adds at r h.finds e;
-      none = λ e. first_none _ _ _ negate opened w.is_word w.join w.all w.part w.folds w.deepens w.adds at r h.finds e;
-      looks = h.looks;
-    }
-
-  module _ {at : ℕ} {left : Read} (h : Chaining at left) where
+  module _ (left : Read) (h : Chaining q word negate opened at left) where
     -- no word goes on
-    pub last_read : is_kind w.own left.ahead ≡ false → Reads a c v s Chain at negate opened left
-    last_read other = record { finds = go left.found refl; looks = h.looks }
-      where
-        go : (b : Bool) → left.found ≡ b → FindsChain at left
-        go true e =
-            subst (FindsChain at) (as_filter left e)
-            (chain_done _ _ _ negate opened w.is_word w.join w.all w.part w.folds w.deepens w.adds at left.next left.deep left.leaves
-            left.answer (h.one e) left.ahead left.past (w.seen left.next left.ahead left.past (h.looks.one e) ∙ other))
-        go false e = h.none e
-
-    module _ (word_ahead : left.ahead ≡ w.own) where
-      there : left.found ≡ true
-      there = symbol_found h.looks (ap is_symbol word_ahead ∙ w.readable)
-
-      goes : (left.next < left.past) × (after a c v s left.next ≡ w.symbol ∷ after a c v s left.past)
-      goes = w.onward left.next left.ahead left.past (h.looks.one there) word_ahead
-
-      pub past_within : left.past ≤ length s
-      past_within = seen_within (h.looks.one there)
-
-      pub past_onward : at < left.past
-      past_onward = omega (arith, (h.one there).forward, goes.0)
-
-      module _ {right : Read} (k : Reads a c v s w.part left.past negate opened right) where
-        pub right_missed : right.found ≡ false → Reads a c v s Chain at negate opened right
-        right_missed e = record {
-          finds = right_none _ _ _ negate opened w.is_word w.join w.all w.part w.folds w.deepens w.adds at left.next left.deep
-              left.leaves left.answer (h.one there) w.symbol left.past w.is goes.1 goes.0 right k.finds e;
-          looks = k.looks;
+    pub last_read : left.ahead ≢ ahead.Word word → ReadsOne q (parser_of word) at negate opened left
+    last_read other =
+        let done = chain_done (after q) (length q.text.now) (ask q) negate opened (is_word word) (join_of word) (all_of word negate) (part_of word)
+        (folds q word negate) (deepens word) (adds word) h.chained
+        (no_word word (columns_of q) q.text.now left.next left.past left.ahead (shows h.seen) other) in
+        record {
+          one = record {
+            within = done.within;
+            few = done.few;
+            forward = done.forward;
+            shorter = done.shorter;
+            says = λ n m. let f = done.says n m in (f.0, sym (chain_is word n (after q at)) ∙ f.1, f.2);
+          };
+          seen = h.seen;
         }
 
-        module _ (found : right.found ≡ true) where
-          pub few_leaves : left.leaves + right.leaves ≤ length s
-          few_leaves = omega (arith, (h.one there).few, k.finds.few found, k.finds.within found, goes.0)
+    module _ (word_ahead : left.ahead ≡ ahead.Word word) where
+      pub goes : Goes (columns_of q) q.text.now left.next (symbol_of word) left.past
+      goes = rw word_ahead at (shows h.seen)
 
-          pub falls : length s - right.next < length s - left.next
-          falls = omega (arith, k.finds.forward found, k.finds.within found, goes.0)
+      pub right_missed : Reads q (part_of word) left.past negate opened None → Reads q (parser_of word) at negate opened None
+      right_missed k =
+          none_read (right_none (after q) (length q.text.now) (ask q) negate opened (is_word word) (join_of word) (all_of word negate) (part_of word)
+          (folds q word negate) (deepens word) (adds word) h.chained (symbol_of word) left.past (own_word word) goes.0 goes.1 k)
 
-          pub next_read : Chaining at (join_read w.all left right)
-          next_read = record {
-            one = λ e. right_one _ _ _ negate opened w.is_word w.join w.all w.part w.folds w.deepens w.adds at left.next left.deep
-                left.leaves left.answer (h.one there) w.symbol left.past w.is goes.1 goes.0 right k.finds found;
-            none = λ e. clash refl e;
-            looks = record { one = λ e. k.looks.one found; none = λ e. clash refl e };
-          }
+      module _ (right : Read) (k : ReadsOne q (part_of word) left.past negate opened right) where
+        pub next_read : Chaining q word negate opened at (join_read (all_of word negate) left right)
+        next_read = record {
+          chained = right_one (after q) (length q.text.now) (ask q) negate opened (is_word word) (join_of word) (all_of word negate) (part_of word)
+              (folds q word negate) (deepens word) (adds word) h.chained (symbol_of word) left.past (own_word word) goes.0 goes.1 k.one;
+          seen = k.seen;
+        }

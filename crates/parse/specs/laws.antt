@@ -3,5 +3,4 @@ pub mod ReadingLaws
 pub mod SingleReadLaws
 pub mod BracketReadLaws
 pub mod AskingLaws
-pub mod SymbolKindLaws
 pub mod FilterMeansLaws

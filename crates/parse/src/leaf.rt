@@ -1,18 +1,19 @@
 // What a leaf is answered by the value of its column.
-ghost use Rattle.std.specs.Prelude.{◌≡◌};
-ghost use Rattle.columns.specs.code.ColumnAnswers.{columns_in};
-ghost use Rattle.parse.specs.code.FilterReads.{SomeLeaf, ValuesRead, Asks};
+ghost use Rattle.std.specs.Prelude.{◌≡◌, ◌<◌, length, option_copied};
+ghost use Rattle.columns.specs.code.ColumnAnswers.{cell_at};
+ghost use Rattle.parse.specs.code.FilterReads.{columns_of, cells_for, SomeLeaf, Asks};
 ghost use Rattle.parse.specs.laws.AskingLaws.{asked_as};
 
-use ask::asked::Asked;
+use crate::request::Request;
+use ask::leaf::{NumberLeaf, TextLeaf};
 use ask::number::ask_number;
 use ask::text::ask_text;
-use columns::list::fields_at;
 use expr::operator::PredicateOperator;
-use leaves::leaf::Leaf;
-use meets::held::Held;
+use leaves::leaf::{Leaf, Literal};
+use sheet::head::Fields;
+use sheet::literal::content_of;
 use sheet::records::{MISSING_MARK, RECORD_SIZE};
-use sheet::value::content_in;
+use values::error::ErrorKind;
 use values::words::u16_at;
 
 // The operator as it is asked, under an odd number of nots where `negate`.
@@ -22,43 +23,45 @@ fn turned(negate: bool, operator: PredicateOperator) -> PredicateOperator
     if negate { operator.negate() } else { operator }
 }
 
-// What the leaf is answered by the value at its place.
-pub fn ask_leaf(asked: Asked, c: &[u8], v: &[u8], s: &[u8], leaf: Leaf, negate: bool) -> Held
-    requires values_read { ValuesRead asked c.now v.now s.now }
-    requires some_leaf { SomeLeaf (columns_in c.now) s.now leaf }
-    ensures { Asks asked c.now v.now s.now negate leaf result }
+// The value at a place, which was found to be there.
+#[tactic(auto, using(crate::proofs::Values::value_missing, crate::proofs::Values::value_short, crate::proofs::Values::value_present))]
+fn value_at<'a>(request: &'a Request, place: usize) -> Option<&'a [u8]>
+    requires { place < length (columns_of request.now) }
+    ensures { option_copied result ≡ (cell_at (cells_for request.now) place).row }
 {
-    let place = leaf.place;
-    let fields = fields_at(c, place);
-    let column = fields.column;
-    let transform = fields.transform;
-    let operator = leaf.operator;
-    let operator = turned(negate, operator);
-    let start = RECORD_SIZE * place;
-    let end = start + RECORD_SIZE;
-    let value = &v[start..end];
-    let present = u16_at(value, 2) != MISSING_MARK;
-    let content = content_in(value, present);
-    if leaf.is_text {
-        let from = leaf.from;
-        let to = leaf.to;
-        return ask_text(
-            asked,
-            column,
-            transform,
-            operator,
-            &s[from..to],
-            present,
-            content,
-        );
+    if u16_at(request.values, RECORD_SIZE * place + 2) == MISSING_MARK {
+        None
+    } else {
+        Some(content_of(request.values, place))
     }
-    ask_number(
-        asked,
-        column,
-        transform,
-        operator,
-        leaf.number,
-        present,
-        content,
-    )
+}
+
+// What the leaf is answered by the value at its place.
+pub fn ask_leaf(request: &Request, leaf: Leaf, negate: bool) -> Result<bool, ErrorKind>
+    requires { SomeLeaf request.now leaf }
+    ensures { Asks request.now negate leaf result }
+{
+    let Fields { column, transform } = request.columns.fields_at(leaf.place);
+    let operator = turned(negate, leaf.operator);
+    let value = value_at(request, leaf.place);
+    match leaf.literal {
+        Literal::Number(literal) => {
+            let leaf = NumberLeaf {
+                column,
+                transform,
+                operator,
+                literal,
+            };
+            ask_number(request.asked, leaf, value)
+        }
+        Literal::Text(text) => {
+            let leaf = TextLeaf {
+                column,
+                transform,
+                operator,
+                literal: &request.text[text.from..text.to],
+            };
+            ask_text(request.asked, leaf, value)
+        }
+    }
 }

@@ -5,4 +5,5 @@ pub mod join;
 pub mod leaf;
 pub mod parse;
 pub mod read;
+pub mod request;
 pub mod skim;

@@ -1,140 +1,109 @@
-// Filters, read and answered in one pass. The routines for or, and, not and brackets call each other; the bytes left fall.
+// Filters, read and answered in one pass. The routines for or, and, not and brackets call each other, a form that the paper binds; the bytes left fall.
+ghost use Rattle.std.specs.Prelude.{◌≤◌, length};
 ghost use Rattle.grammar.specs.Parser.{single, conjunction, disjunction};
-ghost use Rattle.parse.specs.code.FilterReads.{Ready, Reads, ReadsBracket};
+ghost use Rattle.parse.specs.FilterText.{bracket_limit};
+ghost use Rattle.parse.specs.code.FilterReads.{parser_of, part_of, Reads, ReadsBracket};
 
 use crate::leaf::ask_leaf;
-use crate::read::{Read, filter_to, join_reads, no_filter};
+use crate::read::{Ahead, Read, Word, filter_to, join_reads};
+use crate::request::Request;
 use crate::skim::skim;
-use ask::asked::Asked;
-use leaves::symbol::{SymbolKind, symbol_at};
-use meets::held::Held;
+use leaves::symbol::{Symbol, symbol_at};
 
 // The most brackets that may be open at one place.
 pub const BRACKET_LIMIT: usize = 16;
 
-// A filter from `at` on. Under an odd number of nots (`negate`) or becomes and, and and becomes or; `opened` brackets are open around it.
-#[cycle(parser)]
-pub fn parse_or(
-    asked: Asked,
-    c: &[u8],
-    count: usize,
-    v: &[u8],
-    s: &[u8],
-    at: usize,
-    negate: bool,
-    opened: usize,
-) -> Read
-    requires { Ready asked c.now v.now s.now count at opened }
-    ensures { Reads asked c.now v.now s.now disjunction at negate opened result }
-{
-    let mut left = parse_and(asked, c, count, v, s, at, negate, opened);
-    loop {
-        let ahead = left.ahead;
-        let SymbolKind::Or = ahead else {
-            return left;
-        };
-        let right = parse_and(asked, c, count, v, s, left.past, negate, opened);
-        if !right.found {
-            return right;
-        }
-        left = join_reads(negate, left, right);
+// What is read of a filter from `at` on: under an odd number of nots (`negate`) or becomes and, and and becomes or; `opened` brackets are open around it.
+impl Request<'_> {
+    #[cycle(parser)]
+    pub fn parse_or(&self, at: usize, negate: bool, opened: usize) -> Option<Read>
+        requires at_in_bounds { at ≤ length self.now.text.now }
+        requires few { opened ≤ bracket_limit }
+        ensures { Reads self.now disjunction at negate opened result }
+    {
+        self.parse_chain(Word::Or, at, negate, opened)
     }
-}
 
-#[cycle(parser)]
-fn parse_and(
-    asked: Asked,
-    c: &[u8],
-    count: usize,
-    v: &[u8],
-    s: &[u8],
-    at: usize,
-    negate: bool,
-    opened: usize,
-) -> Read
-    requires { Ready asked c.now v.now s.now count at opened }
-    ensures { Reads asked c.now v.now s.now conjunction at negate opened result }
-{
-    let mut left = parse_not(asked, c, count, v, s, at, negate, opened);
-    loop {
-        let ahead = left.ahead;
-        let SymbolKind::And = ahead else {
-            return left;
-        };
-        let right = parse_not(asked, c, count, v, s, left.past, negate, opened);
-        if !right.found {
-            return right;
-        }
-        left = join_reads(!negate, left, right);
+    #[cycle(parser)]
+    fn parse_and(&self, at: usize, negate: bool, opened: usize) -> Option<Read>
+        requires at_in_bounds { at ≤ length self.now.text.now }
+        requires few { opened ≤ bracket_limit }
+        ensures { Reads self.now conjunction at negate opened result }
+    {
+        self.parse_chain(Word::And, at, negate, opened)
     }
-}
 
-// The nots are a loop: a text may have a thousand, and each would take its share of the stack.
-#[cycle(parser)]
-fn parse_not(
-    asked: Asked,
-    c: &[u8],
-    count: usize,
-    v: &[u8],
-    s: &[u8],
-    at: usize,
-    negate: bool,
-    opened: usize,
-) -> Read
-    requires { Ready asked c.now v.now s.now count at opened }
-    ensures { Reads asked c.now v.now s.now single at negate opened result }
-{
-    let mut here = at;
-    let mut turned = negate;
-    loop {
-        let symbol = symbol_at(c, count, s, here);
-        let kind = symbol.kind;
-        let next = symbol.next;
-        match kind {
-            SymbolKind::Not => {
-                turned = !turned;
-                here = next;
-            }
-            SymbolKind::Leaf => {
-                let leaf = symbol.leaf;
-                let answer = ask_leaf(asked, c, v, s, leaf, turned);
-                return filter_to(c, count, s, next, 1, false, answer);
-            }
-            SymbolKind::Opening => {
-                return parse_bracket(asked, c, count, v, s, next, turned, opened);
-            }
-            _ => return no_filter(next),
+    // The loop of both: filters with one word between them, from the left.
+    #[inline(always)]
+    #[cycle(parser)]
+    fn parse_chain(&self, word: Word, at: usize, negate: bool, opened: usize) -> Option<Read>
+        requires at_in_bounds { at ≤ length self.now.text.now }
+        requires few { opened ≤ bracket_limit }
+        ensures { Reads self.now (parser_of word) at negate opened result }
+    {
+        let mut left = self.parse_part(word, at, negate, opened)?;
+        while left.ahead == Ahead::Word(word) {
+            let right = self.parse_part(word, left.past, negate, opened)?;
+            left = join_reads(word.joins_all(negate), left, right);
         }
+        Some(left)
     }
-}
 
-// What is in a bracket, from the text after `(` on. Where too many are open it is passed over: nothing in it is answered.
-#[cycle(parser)]
-fn parse_bracket(
-    asked: Asked,
-    c: &[u8],
-    count: usize,
-    v: &[u8],
-    s: &[u8],
-    at: usize,
-    negate: bool,
-    opened: usize,
-) -> Read
-    requires { Ready asked c.now v.now s.now count at opened }
-    ensures { ReadsBracket asked c.now v.now s.now at negate opened result }
-{
-    if opened == BRACKET_LIMIT {
-        let rest = skim(c, count, s, at);
-        if !rest.found {
-            return no_filter(at);
+    // What stands between two such words.
+    #[inline(always)]
+    #[cycle(parser)]
+    fn parse_part(&self, word: Word, at: usize, negate: bool, opened: usize) -> Option<Read>
+        requires at_in_bounds { at ≤ length self.now.text.now }
+        requires few { opened ≤ bracket_limit }
+        ensures { Reads self.now (part_of word) at negate opened result }
+    {
+        match word {
+            Word::Or => self.parse_and(at, negate, opened),
+            Word::And => self.parse_not(at, negate, opened),
         }
-        return filter_to(c, count, s, rest.next, 0, true, Held::No);
     }
-    let inner = parse_or(asked, c, count, v, s, at, negate, opened + 1);
-    let ahead = inner.ahead;
-    let SymbolKind::Closing = ahead else {
-        return no_filter(at);
-    };
-    let answer = inner.answer;
-    filter_to(c, count, s, inner.past, inner.leaves, inner.deep, answer)
+
+    // The nots are a loop: a text may have a thousand, and each would take its share of the stack.
+    #[cycle(parser)]
+    fn parse_not(&self, at: usize, negate: bool, opened: usize) -> Option<Read>
+        requires at_in_bounds { at ≤ length self.now.text.now }
+        requires few { opened ≤ bracket_limit }
+        ensures { Reads self.now single at negate opened result }
+    {
+        let mut here = at;
+        let mut turned = negate;
+        loop {
+            let (symbol, next) = symbol_at(self.columns, self.text, here);
+            match symbol {
+                Symbol::Not => {
+                    turned = !turned;
+                    here = next;
+                }
+                Symbol::Leaf(leaf) => {
+                    let answer = ask_leaf(self, leaf, turned);
+                    return Some(filter_to(self, next, 1, false, answer));
+                }
+                Symbol::Opening => return self.parse_bracket(next, turned, opened),
+                _ => return None,
+            }
+        }
+    }
+
+    // What is in a bracket, from the text after `(` on. Where too many are open it is passed over: nothing in it is answered.
+    #[cycle(parser)]
+    fn parse_bracket(&self, at: usize, negate: bool, opened: usize) -> Option<Read>
+        requires at_in_bounds { at ≤ length self.now.text.now }
+        requires few { opened ≤ bracket_limit }
+        ensures { ReadsBracket self.now at negate opened result }
+    {
+        if opened == BRACKET_LIMIT {
+            let next = skim(self.columns, self.text, at)?;
+            return Some(filter_to(self, next, 0, true, Ok(false)));
+        }
+        let inner = self.parse_or(at, negate, opened + 1)?;
+        if inner.ahead != Ahead::Closing {
+            return None;
+        }
+        Some(filter_to(self, inner.past, inner.leaves, inner.deep, inner.answer))
+    }
 }

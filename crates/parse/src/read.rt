@@ -1,13 +1,45 @@
 // What was read of a filter's text.
 ghost use Rattle.std.specs.Prelude.{◌≡◌, ◌+◌, ◌≤◌, ◌<◌, length};
 ghost use Rattle.columns.specs.code.ColumnAnswers.{columns_in};
-ghost use Rattle.parse.specs.code.FilterReads.{no_filter, join_read, FilterTo};
+ghost use Rattle.parse.specs.code.FilterReads.{columns_of, Seen};
+ghost use Rattle.parse.specs.code.Reading.{all_of, filter_to, join_read};
 
 use crate::join::join_answers;
-use leaves::symbol::{SymbolKind, symbol_at};
-use meets::held::Held;
+use crate::request::Request;
+use columns::list::Columns;
+use leaves::symbol::{Symbol, symbol_at};
+use values::error::ErrorKind;
 
-// The fields of a word come first: the others then lie side by side, and are handed through memory in one piece.
+// A word between two filters.
+#[derive(Clone, Copy, PartialEq, Eq)]
+pub enum Word {
+    And,
+    Or,
+}
+
+impl Word {
+    // Whether it joins two filters as `and` does: under an odd number of nots (`negate`) each word becomes the other.
+    pub fn joins_all(self, negate: bool) -> bool
+        ensures { result ≡ all_of self negate }
+    {
+        match self {
+            Word::And => !negate,
+            Word::Or => negate,
+        }
+    }
+}
+
+// What stands after a filter.
+#[derive(Clone, Copy, PartialEq, Eq)]
+pub enum Ahead {
+    End,
+    Word(Word),
+    Closing,
+    // What cannot stand there.
+    Other,
+}
+
+// A filter. The fields of a word come first: the others then lie side by side, and are handed through memory in one piece.
 #[derive(Clone, Copy)]
 pub struct Read {
     // Where the text after the filter begins, and where the text after the symbol there begins.
@@ -15,52 +47,47 @@ pub struct Read {
     pub past: usize,
     // How many leaves it has.
     pub leaves: usize,
-    // Of which kind the symbol after it is, so that no symbol is read twice.
-    pub ahead: SymbolKind,
-    // Whether there is a filter; where there is none, no other field counts but `ahead`.
-    pub found: bool,
-    // Whether too many of its brackets are open at one place.
+    // What that symbol is, so that none is read twice.
+    pub ahead: Ahead,
+    // Whether too many of its brackets are open at one place; no answer counts then.
     pub deep: bool,
-    pub answer: Held,
+    pub answer: Result<bool, ErrorKind>,
 }
 
-pub fn no_filter(at: usize) -> Read
-    ensures { result ≡ no_filter at }
+// The symbol at `next`, and where the text after it begins.
+fn look_ahead(columns: Columns, text: &[u8], next: usize) -> (Ahead, usize)
+    requires { next ≤ length text.now }
+    ensures { Seen (columns_in columns.entry.list.now) text.now next result.0 result.1 }
 {
-    Read {
-        found: false,
-        next: at,
-        ahead: SymbolKind::Unreadable,
-        past: at,
-        leaves: 0,
-        deep: false,
-        answer: Held::No,
-    }
+    let (symbol, past) = symbol_at(columns, text, next);
+    let ahead = match symbol {
+        Symbol::End => Ahead::End,
+        Symbol::And => Ahead::Word(Word::And),
+        Symbol::Or => Ahead::Word(Word::Or),
+        Symbol::Closing => Ahead::Closing,
+        _ => Ahead::Other,
+    };
+    (ahead, past)
 }
 
 // A filter that ends at `next`, with the symbol there.
 pub fn filter_to(
-    c: &[u8],
-    count: usize,
-    s: &[u8],
+    request: &Request,
     next: usize,
     leaves: usize,
     deep: bool,
-    answer: Held,
+    answer: Result<bool, ErrorKind>,
 ) -> Read
-    requires count_value { count ≡ length (columns_in c.now) }
-    requires next_in_bounds { next ≤ length s.now }
-    ensures { FilterTo (columns_in c.now) s.now next leaves deep answer result }
+    requires { next ≤ length request.now.text.now }
+    ensures is { result ≡ filter_to next leaves deep answer result.ahead result.past }
+    ensures seen { Seen (columns_of request.now) request.now.text.now next result.ahead result.past }
 {
-    let symbol = symbol_at(c, count, s, next);
-    let ahead = symbol.kind;
-    let past = symbol.next;
+    let (ahead, past) = look_ahead(request.columns, request.text, next);
     Read {
-        found: true,
         next,
-        ahead,
         past,
         leaves,
+        ahead,
         deep,
         answer,
     }
@@ -71,17 +98,10 @@ pub fn join_reads(all: bool, left: Read, right: Read) -> Read
     requires { left.leaves + right.leaves < 18446744073709551616 }
     ensures { result ≡ join_read all left right }
 {
-    let ahead = right.ahead;
-    let a = left.answer;
-    let b = right.answer;
-    let answer = join_answers(all, a, b);
     Read {
-        found: true,
-        next: right.next,
-        ahead,
-        past: right.past,
         leaves: left.leaves + right.leaves,
         deep: left.deep || right.deep,
-        answer,
+        answer: join_answers(all, left.answer, right.answer),
+        ..right
     }
 }

@@ -1,6 +1,4 @@
 -- Lemmas that several proofs of this crate share.
-pub mod Units
-pub mod ResultArms
-pub mod NumberArms
-pub mod TruncateArms
-pub mod BytesArms
+pub mod Listed
+pub mod DateColumns
+pub mod Truncates

@@ -1,2 +1,2 @@
--- What the enums and the arrays of the code of `partition` mean, as the definitions have it.
+-- What the code of `partition` answers and takes, as the definitions have it.
 pub mod PartitionAnswers

@@ -1,8 +1,7 @@
 // The transform of a String or Binary: a choice over `Transform` where the Rust has a boxed trait object (src/transform/mod.rs).
-ghost use Rattle.std.specs.Prelude.{◌≡◌};
-ghost use Rattle.values.specs.Outcomes.{row};
+ghost use Rattle.std.specs.Prelude.{◌≡◌, option_copied};
 ghost use Rattle.partition.specs.Partition.{truncate_bytes, transform_bytes, bytes_partition};
-ghost use Rattle.partition.specs.code.PartitionAnswers.{bytes_result};
+ghost use Rattle.values.specs.code.Lent.{lent_value};
 
 use crate::result::is_known;
 use transform::truncate::{truncate_binary, truncate_str};
@@ -10,57 +9,51 @@ use values::datatypes::PrimitiveType;
 use values::error::ErrorKind;
 use values::transform::Transform;
 
-// What a transform makes of a String or Binary: missing, so many of its first bytes, or a refusal.
-#[derive(Clone, Copy)]
-pub enum BytesResult {
-    Missing,
-    Prefix(usize),
-    Err(ErrorKind),
-}
-
 // A String's first code points, a Binary's first bytes: a part of what was lent.
 pub fn truncate_bytes<'a>(column: PrimitiveType, width: u32, s: &'a [u8]) -> &'a [u8]
     ensures { result.now ≡ truncate_bytes column width s.now }
 {
-    if let PrimitiveType::String = column {
+    if column == PrimitiveType::String {
         truncate_str(s, width)
     } else {
         truncate_binary(s, width)
     }
 }
 
-// A present String or Binary, transformed.
-pub fn transform_bytes_literal(column: PrimitiveType, transform: Transform, s: &[u8]) -> BytesResult
-    ensures { result ≡ bytes_result (transform_bytes column transform s.now) }
+// A present String or Binary, transformed: to a part of what was lent, where it is not missing.
+#[tactic(auto, unfolding(crate::specs::Partition::transform_bytes))]
+pub fn transform_bytes_literal<'a>(
+    column: PrimitiveType,
+    transform: Transform,
+    s: &'a [u8],
+) -> Result<Option<&'a [u8]>, ErrorKind>
+    ensures { lent_value result ≡ transform_bytes column transform s.now }
 {
     match transform {
-        Transform::Identity => BytesResult::Prefix(s.len()),
-        Transform::Truncate(width) => BytesResult::Prefix(truncate_bytes(column, width, s).len()),
-        Transform::Year => BytesResult::Err(ErrorKind::NoResultType),
-        Transform::Month => BytesResult::Err(ErrorKind::NoResultType),
-        Transform::Day => BytesResult::Err(ErrorKind::NoResultType),
-        Transform::Hour => BytesResult::Err(ErrorKind::NoResultType),
-        Transform::Void => BytesResult::Missing,
-        Transform::Unknown => BytesResult::Err(ErrorKind::FeatureUnsupported),
+        Transform::Identity => Ok(Some(s)),
+        Transform::Truncate(width) => Ok(Some(truncate_bytes(column, width, s))),
+        Transform::Year | Transform::Month | Transform::Day | Transform::Hour => Err(
+            ErrorKind::NoResultType,
+        ),
+        Transform::Void => Ok(None),
+        Transform::Unknown => Err(ErrorKind::FeatureUnsupported),
     }
 }
 
-// The partition value of a row of a String or Binary column: of s, or of a missing value.
-pub fn transform_bytes(
+// The partition value of a row of a String or Binary column: of the bytes that it holds, or of none.
+#[tactic(auto, unfolding(crate::specs::Partition::bytes_partition, crate::specs::Partition::partition))]
+pub fn transform_bytes<'a>(
     column: PrimitiveType,
     transform: Transform,
-    present: bool,
-    s: &[u8],
-) -> BytesResult
-    ensures { result ≡ bytes_result (bytes_partition column transform (row present s.now)) }
+    row: Option<&'a [u8]>,
+) -> Result<Option<&'a [u8]>, ErrorKind>
+    ensures { lent_value result ≡ bytes_partition column transform (option_copied row.entry) }
 {
-    if is_known(transform) {
-        if present {
-            transform_bytes_literal(column, transform, s)
-        } else {
-            BytesResult::Missing
-        }
-    } else {
-        BytesResult::Err(ErrorKind::FeatureUnsupported)
+    if !is_known(transform) {
+        return Err(ErrorKind::FeatureUnsupported);
+    }
+    match row {
+        None => Ok(None),
+        Some(s) => transform_bytes_literal(column, transform, s),
     }
 }

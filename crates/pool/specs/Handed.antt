@@ -1,18 +1,11 @@
--- What pooling answers, the ends that are handed back, and what a caller in C is told. Assumes nothing.
-use Rattle.std.specs.Prelude.{ℕ, zero, suc, ◌+◌, ◌*◌, List, []}
-use Rattle.values.specs.Outcomes.{Res, ok, err, error_number}
+-- The ends that are handed back, and what a caller in C is told of a pooled summary. Assumes nothing.
+use Rattle.std.specs.Prelude.{ℕ, zero, suc, ◌+◌, ◌*◌, List, [], Ok, Err}
+use Rattle.values.specs.Outcomes.{Res, error_number}
 use Rattle.sheet.specs.Records.{record_size, record_at}
 use Rattle.pool.specs.Pooling.{of, pool}
 use Rattle.pool.specs.declared.pool.Pooled.{Pooled}
-use Rattle.pool.specs.declared.pool.PoolResult.{PoolResult}
-use Rattle.pool.specs.declared.pool.PoolResult.TheVariants as pool-result
 use Rattle.pool.specs.declared.pool.Whose.{Whose}
 use Rattle.pool.specs.declared.pool.Whose.TheVariants.{First, Second}
-
--- ---- the pooled summary, or why there is none
-abbrev pub pool_result : Res Pooled → PoolResult
-pool_result (ok p) = pool-result.Ok p
-pool_result (err e) = pool-result.Err e
 
 -- ---- the end itself
 
@@ -32,12 +25,12 @@ whose_record (suc k) p = p.highest
 -- After a refusal it is an empty part of the first
 module _ (k : ℕ) where
   abbrev pub end_bytes : Res Pooled → List ℕ → List ℕ → List ℕ
-  end_bytes (ok p) first second = record_at (of (whose_record k p) first second) k
-  end_bytes (err e) first second = []
+  end_bytes (Ok p) first second = record_at (of (whose_record k p) first second) k
+  end_bytes (Err e) first second = []
 
   abbrev pub end_place : Res Pooled → Place → Place → Place
-  end_place (ok p) first second = further (record_size * k) (of (whose_record k p) first second)
-  end_place (err e) first second = first
+  end_place (Ok p) first second = further (record_size * k) (of (whose_record k p) first second)
+  end_place (Err e) first second = first
 
 -- the contracts: what is handed back, and where it lies, for all bytes
 module _ (first second : List ℕ) where
@@ -57,8 +50,8 @@ module _ (first second : List ℕ) where
 
 -- 0, or the number of the refusal
 abbrev pub pool_number : Res Pooled → ℕ
-pool_number (ok p) = 0
-pool_number (err e) = error_number e
+pool_number (Ok p) = 0
+pool_number (Err e) = error_number e
 
 -- whose end it is: 0 the first file's, 1 the second's
 abbrev pub whose_number : Whose → ℕ
@@ -67,8 +60,8 @@ whose_number Second = 1
 
 -- a number of the pooled summary; after a refusal the one that stood there before
 abbrev pub told : (Pooled → ℕ) → Res Pooled → ℕ → ℕ
-told number (ok p) before = number p
-told number (err e) before = before
+told number (Ok p) before = number p
+told number (Err e) before = before
 
 abbrev pub told_lowest : Res Pooled → ℕ → ℕ
 told_lowest = told (λ p. whose_number p.lowest)

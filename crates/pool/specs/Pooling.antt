@@ -1,15 +1,15 @@
 -- One summary for two files, document 02, #105: whose the ends are, what is marked, and the bytes of the pooled summary. Assumes nothing.
-use Rattle.std.specs.Prelude.{ℕ, Bool, true, false, ◌||◌, List, [], ◌∷◌, ◌++◌, ◌≡◌, refl, ℤ, pos, negsuc}
+use Rattle.std.specs.Prelude.{ℕ, Bool, true, false, ◌||◌, List, [], ◌∷◌, ◌++◌, ◌≡◌, refl, ℤ, pos, negsuc, Ok, Err}
 use Rattle.values.specs.Characters.{ascii}
 use Rattle.values.specs.Order.{compare_numbers, compare_bytes, is_less}
-use Rattle.values.specs.Outcomes.{Res, ok, err, need, ◌>>=◌, ◌>>◌}
+use Rattle.values.specs.Outcomes.{Res, need, ◌>>=◌, ◌>>◌}
 use Rattle.values.specs.Types.{same_type}
 use Rattle.values.specs.Utf8.{is_code_point, code_points, utf8}
 use Rattle.values.specs.Words.{field, signed_bytes}
 use Rattle.values.specs.declared.datatypes.PrimitiveType.{PrimitiveType}
 use Rattle.values.specs.declared.datatypes.PrimitiveType.TheVariants.{Int, Long, String, Binary}
 use Rattle.values.specs.declared.error.ErrorKind.TheVariants.{NotUtf8, WrongSummary, DifferentTypes}
-use Rattle.values.specs.declared.order.Ordering.{Ordering}
+use Rattle.std.specs.declared.cmp.Ordering.{Ordering}
 use Rattle.sheet.specs.Records.{record_at}
 use Rattle.sheet.specs.Values.{read_bytes}
 use Rattle.summary.specs.EndValues.{read_ends, compare_in, ordered}
@@ -61,7 +61,7 @@ pool_of x y = do
   need (ordered (compare_in x.column) xs) WrongSummary
   need (ordered (compare_in y.column) ys) WrongSummary
   need (same_type x.column y.column) DifferentTypes
-  ok (joined x.column xs x.has_missing ys y.has_missing)
+  Ok (joined x.column xs x.has_missing ys y.has_missing)
 
 -- 3 of either file, and then the rest
 unfoldable pub pool : List ℕ → List ℕ → Res Pooled
@@ -80,7 +80,7 @@ pooled_bytes first second p =
 unfoldable pub pooled : List ℕ → List ℕ → Res (List ℕ)
 pooled first second = do
   p ← pool first second
-  ok (pooled_bytes first second p)
+  Ok (pooled_bytes first second p)
 
 -- ---- examples
 abbrev file : PrimitiveType → Ends (List ℕ) → Bool → Summary
@@ -90,27 +90,27 @@ abbrev ints : ℤ → ℤ → Bool → Summary
 ints low high has_missing = file Int (signed_bytes 4 low to signed_bytes 4 high) has_missing
 
 -- from -2 to 1 and from -2 to 3: equal ends are the first's, on both sides
-by_ends : (pool_of (ints (negsuc 1) (pos 1) false) (ints (negsuc 1) (pos 3) true) ≡ ok (record { lowest = First; highest = Second; flag = 1 }))
-    × (pool_of (ints (negsuc 1) (pos 3) false) (ints (pos 0) (pos 3) false) ≡ ok (record { lowest = First; highest = First; flag = 0 }))
+by_ends : (pool_of (ints (negsuc 1) (pos 1) false) (ints (negsuc 1) (pos 3) true) ≡ Ok (record { lowest = First; highest = Second; flag = 1 }))
+    × (pool_of (ints (negsuc 1) (pos 3) false) (ints (pos 0) (pos 3) false) ≡ Ok (record { lowest = First; highest = First; flag = 0 }))
 unfolding pool_of compare_numbers
 by_ends = (refl, refl)
 
 -- numbers are signed, and byte strings compare by byte: 00 is below fe
-by_type : (pool_of (ints (pos 0) (pos 0) false) (ints (negsuc 1) (negsuc 1) false) ≡ ok (record { lowest = Second; highest = First; flag = 0 }))
-    × (pool_of (file Binary ((0 ∷ []) to (0 ∷ [])) false) (file Binary ((0xFE ∷ []) to (0xFE ∷ [])) false) ≡ ok (record { lowest = First; highest = Second; flag = 0 }))
+by_type : (pool_of (ints (pos 0) (pos 0) false) (ints (negsuc 1) (negsuc 1) false) ≡ Ok (record { lowest = Second; highest = First; flag = 0 }))
+    × (pool_of (file Binary ((0 ∷ []) to (0 ∷ [])) false) (file Binary ((0xFE ∷ []) to (0xFE ∷ [])) false) ≡ Ok (record { lowest = First; highest = Second; flag = 0 }))
 unfolding pool_of compare_numbers compare_bytes
 by_type = (refl, refl)
 
 -- a file of missing values adds its mark, an empty one nothing; of two without present values the ends are the first's
-without_values : (pool_of (file Int none_present true) (ints (pos 0) (pos 3) false) ≡ ok (record { lowest = Second; highest = Second; flag = 1 }))
-    × (pool_of (ints (pos 0) (pos 3) false) (file Int none_present false) ≡ ok (record { lowest = First; highest = First; flag = 0 }))
-    × (pool_of (file Int none_present false) (file Int none_present true) ≡ ok (record { lowest = First; highest = First; flag = 3 }))
+without_values : (pool_of (file Int none_present true) (ints (pos 0) (pos 3) false) ≡ Ok (record { lowest = Second; highest = Second; flag = 1 }))
+    × (pool_of (ints (pos 0) (pos 3) false) (file Int none_present false) ≡ Ok (record { lowest = First; highest = First; flag = 0 }))
+    × (pool_of (file Int none_present false) (file Int none_present true) ≡ Ok (record { lowest = First; highest = First; flag = 3 }))
 unfolding pool_of compare_numbers
 without_values = (refl, refl, refl)
 
 -- 4 of either file comes before 11 of either, and 11 before 12
-in_their_order : (pool_of (ints (pos 1) (pos 0) false) (file String ((0xFF ∷ []) to (0xFF ∷ [])) false) ≡ err NotUtf8)
-    × (pool_of (file Long none_present false) (ints (pos 1) (pos 0) false) ≡ err WrongSummary)
-    × (pool_of (file String none_present false) (file Binary (ascii "a" to ascii "b") false) ≡ err DifferentTypes)
+in_their_order : (pool_of (ints (pos 1) (pos 0) false) (file String ((0xFF ∷ []) to (0xFF ∷ [])) false) ≡ Err NotUtf8)
+    × (pool_of (file Long none_present false) (ints (pos 1) (pos 0) false) ≡ Err WrongSummary)
+    × (pool_of (file String none_present false) (file Binary (ascii "a" to ascii "b") false) ≡ Err DifferentTypes)
 unfolding pool_of compare_numbers compare_bytes utf8 code_points is_code_point
 in_their_order = (refl, refl, refl)

@@ -1,15 +1,14 @@
 // One summary for two files: whose end is the lowest and whose the highest, the flag, and the ends themselves, each a part of one of the two summaries.
-ghost use Rattle.std.specs.Prelude.{true, ◌≡◌, ◌+◌, ◌*◌, ◌≤◌, length};
-ghost use Rattle.values.specs.Types.{layout};
+ghost use Rattle.std.specs.Prelude.{◌≡◌, ◌+◌, ◌*◌, ◌≤◌, length};
 ghost use Rattle.sheet.specs.Records.{record_size, record_at};
-ghost use Rattle.summary.specs.code.SummaryAnswers.{EndsThere, ends_at, summary_at};
+ghost use Rattle.summary.specs.code.SummaryAnswers.{ends_in, summary_of};
 ghost use Rattle.pool.specs.Pooling as pooling;
 ghost use Rattle.pool.specs.Pooling.{second_where, joined, pool_of};
-ghost use Rattle.pool.specs.Handed.{pool_result, further, whose_record, end_bytes, end_place, lowest_end, highest_end, lowest_place, highest_place, whose_number};
+ghost use Rattle.pool.specs.Handed.{further, whose_record, end_bytes, end_place, lowest_end, highest_end, lowest_place, highest_place, whose_number};
 
-use sheet::records::RECORD_SIZE;
 use summary::checks::{ends_encoded, ends_ordered, is_below};
-use summary::summary::{Summary, SummaryResult, flag_of, read_summary};
+use summary::reader::{read_summary, record_in};
+use summary::summary::{Summary, flag_of};
 use values::error::ErrorKind;
 
 // Which of the two files an end is of.
@@ -27,13 +26,6 @@ pub struct Pooled {
     pub flag: u8,
 }
 
-// The pooled summary, or why there is none.
-#[derive(Clone, Copy)]
-pub enum PoolResult {
-    Ok(Pooled),
-    Err(ErrorKind),
-}
-
 impl Whose {
     // The second file's where it is the better end, so that equal ends are the first's.
     fn second_where(better: bool) -> Whose
@@ -41,14 +33,13 @@ impl Whose {
     {
         if better { Whose::Second } else { Whose::First }
     }
+}
 
-    pub fn number(self) -> u64
-        ensures { result ≡ whose_number self }
-    {
-        match self {
-            Whose::First => 0,
-            Whose::Second => 1,
-        }
+impl From<Whose> for u64 {
+    ghost from_gives = { λ whose n. n ≡ whose_number whose };
+
+    fn from(whose: Whose) -> u64 {
+        whose as u64
     }
 }
 
@@ -62,29 +53,20 @@ impl Pooled {
 }
 
 // The pooled summary of two files of one type.
-fn join(x: Summary, first: &[u8], y: Summary, second: &[u8]) -> Pooled
-    requires ends_there { x.present ≡ true → EndsThere (layout x.column) first.now }
-    requires ends_there_2 { y.present ≡ true → EndsThere (layout x.column) second.now }
-    ensures { result ≡ joined x.column (ends_at x.present first.now) x.missing (ends_at y.present second.now) y.missing }
+#[inline(always)]
+fn join(x: Summary, y: Summary) -> Pooled
+    requires { x.column ≡ y.column }
+    ensures { result ≡ joined x.entry.column (ends_in x.entry.ends) x.entry.missing (ends_in y.entry.ends) y.entry.missing }
 {
-    let flag = flag_of(x.missing | y.missing, x.present | y.present);
-    if !y.present {
-        return Pooled {
-            lowest: Whose::First,
-            highest: Whose::First,
-            flag,
-        };
-    }
-    if !x.present {
-        return Pooled {
-            lowest: Whose::Second,
-            highest: Whose::Second,
-            flag,
-        };
-    }
-    let column = x.column;
-    let lowest = Whose::second_where(is_below(second, 0, first, 0, column));
-    let highest = Whose::second_where(is_below(first, 1, second, 1, column));
+    let flag = flag_of(x.missing | y.missing, x.ends.is_some() | y.ends.is_some());
+    let (lowest, highest) = match (x.ends, y.ends) {
+        (_, None) => (Whose::First, Whose::First),
+        (None, Some(_)) => (Whose::Second, Whose::Second),
+        (Some(a), Some(b)) => (
+            Whose::second_where(is_below(b.lowest, a.lowest, x.column)),
+            Whose::second_where(is_below(a.highest, b.highest, x.column)),
+        ),
+    };
     Pooled {
         lowest,
         highest,
@@ -93,50 +75,30 @@ fn join(x: Summary, first: &[u8], y: Summary, second: &[u8]) -> Pooled
 }
 
 // 4 of either file, 11 of either, 12, and then the pooled summary.
-fn pool_read(x: Summary, first: &[u8], y: Summary, second: &[u8]) -> PoolResult
-    requires ends_there { x.present ≡ true → EndsThere (layout x.column) first.now }
-    requires ends_there_2 { y.present ≡ true → EndsThere (layout y.column) second.now }
-    ensures { result ≡ pool_result (pool_of (summary_at x first.now) (summary_at y second.now)) }
+#[inline(always)]
+#[tactic(auto, using(crate::specs::laws::PoolLaws::pool_checks))]
+fn pool_read(x: Summary, y: Summary) -> Result<Pooled, ErrorKind>
+    ensures { result ≡ pool_of (summary_of x.entry) (summary_of y.entry) }
 {
-    let encoded = ends_encoded(x, first) & ends_encoded(y, second);
-    if !encoded {
-        return PoolResult::Err(ErrorKind::NotUtf8);
+    if !ends_encoded(x) || !ends_encoded(y) {
+        return Err(ErrorKind::NotUtf8);
     }
-    let ordered = ends_ordered(x, first) & ends_ordered(y, second);
-    if !ordered {
-        return PoolResult::Err(ErrorKind::WrongSummary);
+    if !ends_ordered(x) || !ends_ordered(y) {
+        return Err(ErrorKind::WrongSummary);
     }
-    let column = x.column;
-    let other = y.column;
-    if column.number() != other.number() {
-        return PoolResult::Err(ErrorKind::DifferentTypes);
+    if x.column != y.column {
+        return Err(ErrorKind::DifferentTypes);
     }
-    PoolResult::Ok(join(x, first, y, second))
+    Ok(join(x, y))
 }
 
-pub fn pool(first: &[u8], second: &[u8]) -> PoolResult
-    ensures { result ≡ pool_result (pooling.pool first.now second.now) }
+#[tactic(auto, unfolding(crate::specs::Pooling::pool))]
+pub fn pool(first: &[u8], second: &[u8]) -> Result<Pooled, ErrorKind>
+    ensures { result ≡ pooling.pool first.now second.now }
 {
-    let x = match read_summary(first) {
-        SummaryResult::Err(e) => return PoolResult::Err(e),
-        SummaryResult::Ok(x) => x,
-    };
-    let y = match read_summary(second) {
-        SummaryResult::Err(e) => return PoolResult::Err(e),
-        SummaryResult::Ok(y) => y,
-    };
-    pool_read(x, first, y, second)
-}
-
-// Record k of a summary, a part of it.
-fn record_in<'a>(f: &'a [u8], k: usize) -> &'a [u8]
-    requires { record_size * (k + 1) ≤ length f.now }
-    ensures bytes { result.now ≡ record_at f.now k }
-    ensures place { result.ref_ptr ≡ further (record_size * k) f.entry.ref_ptr }
-{
-    let from = RECORD_SIZE * k;
-    let to = from + RECORD_SIZE;
-    &f[from..to]
+    let x = read_summary(first)?;
+    let y = read_summary(second)?;
+    pool_read(x, y)
 }
 
 // Record k of the file whose end it is.
@@ -159,11 +121,12 @@ fn end_of<'a>(first: &'a [u8], second: &'a [u8], k: usize) -> &'a [u8]
     ensures place { result.ref_ptr ≡ end_place k (pooling.pool first.now second.now) first.entry.ref_ptr second.entry.ref_ptr }
 {
     match pool(first, second) {
-        PoolResult::Ok(pooled) => record_of(pooled.whose(k), first, second, k),
-        PoolResult::Err(_) => &first[..0],
+        Ok(pooled) => record_of(pooled.whose(k), first, second, k),
+        Err(_) => &first[..0],
     }
 }
 
+// A routine for each end, with an equation of its own, in place of one that is handed which.
 pub fn lowest_end<'a>(first: &'a [u8], second: &'a [u8]) -> &'a [u8]
     ensures bytes { result.now ≡ lowest_end first.now second.now }
     ensures place { result.ref_ptr ≡ lowest_place first.now second.now first.entry.ref_ptr second.entry.ref_ptr }

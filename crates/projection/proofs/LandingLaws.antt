@@ -1,11 +1,11 @@
 -- Where a returned predicate's literals and partition values lie: numbers in the result type, byte strings at beginnings of what they are made of.
 -- Assumes nothing.
-use Rattle.std.specs.Prelude.{ℕ, ◌*◌, ◌≤◌, Bool, true, false, not, ◌||◌, List, ◌≡◌, refl, ℤ, length, take}
+use Rattle.std.specs.Prelude.{ℕ, ◌*◌, ◌≤◌, Bool, true, false, not, ◌||◌, List, ◌≡◌, refl, ℤ, length, take, Ok}
 use Rattle.std.proofs.Common.{arith}
 use borrow.Table.Elements.{take-le}
 use Rattle.values.specs.code.Places.{AllOf}
 use Rattle.values.specs.Order.{compare_numbers, compare_bytes}
-use Rattle.values.specs.Outcomes.{Res, ok, Row, missing, present}
+use Rattle.values.specs.Outcomes.{Res, Row, missing, present}
 use Rattle.values.specs.laws.OutcomeLaws.{ok_inj, missing_not_present}
 use Rattle.values.specs.laws.RangeLaws.{next_in_type}
 use Rattle.values.specs.Transforms.{width_of}
@@ -38,8 +38,8 @@ use Rattle.projection.specs.declared.question.Question.{Question}
 use Rattle.projection.specs.declared.question.Question.TheVariants.{Inclusive, Strict, Older}
 
 -- ---- numbers
-module _ (column to : PrimitiveType) (transform : Transform) (r : result_type transform column ≡ ok to) where
-  gives : (l t : ℤ) → number_under column transform l ≡ ok t → InType column l → InType to t
+module _ (column to : PrimitiveType) (transform : Transform) (r : result_type transform column ≡ Ok to) where
+  gives : (l t : ℤ) → number_under column transform l ≡ Ok t → InType column l → InType to t
   gives l t e h = number_lands column to transform l t r h ((literal_value (transform_number column transform) l t).0 e)
 
   itself : transform ≡ Identity → (v : ℤ) → InType column v → InType to v
@@ -81,8 +81,8 @@ module _ (column to : PrimitiveType) (transform : Transform) (r : result_type tr
 
 -- a returned predicate's numbers are of the result type, and lifting at most doubles their count
 pub numbers_land : (question : Question) (column to : PrimitiveType) (transform : Transform) (leaf x : Predicate ℤ)
-    → result_type transform column ≡ ok to → AllOf (InType column) (literals_in leaf)
-    → project_numbers question column transform leaf ≡ ok (some x)
+    → result_type transform column ≡ Ok to → AllOf (InType column) (literals_in leaf)
+    → project_numbers question column transform leaf ≡ Ok (some x)
     → Landed (InType to) (2 * length (literals_in leaf)) x
 unfolding project_numbers
 numbers_land question column to transform leaf x r fine e =
@@ -103,8 +103,8 @@ numbers_land question column to transform leaf x r fine e =
 
 -- ---- strings and binaries
 module _ (question : Question) (column : PrimitiveType) (transform : Transform) (g h : List ℕ → Type 0)
-    (gives : (l t : List ℕ) → transform_bytes column transform l ≡ ok (present t) → g l → h t) (keeps : (l : List ℕ) → g l → h l) where
-  under : (l t : List ℕ) → bytes_under column transform l ≡ ok t → g l → h t
+    (gives : (l t : List ℕ) → transform_bytes column transform l ≡ Ok (present t) → g l → h t) (keeps : (l : List ℕ) → g l → h l) where
+  under : (l t : List ℕ) → bytes_under column transform l ≡ Ok t → g l → h t
   under l t e x = gives l t ((literal_value (transform_bytes column transform) l t).0 e) x
 
   byte_steps_lem : (question : Question) (y : Test (List ℕ)) → AllOf g (literals_in (test y))
@@ -113,7 +113,7 @@ module _ (question : Question) (column : PrimitiveType) (transform : Transform) 
   byte_steps_lem Strict y x = strict_bytes_lem (bytes_under column transform) (length_of column) (width_of transform) g h under keeps y x
   byte_steps_lem Older y x = strict_bytes_lem (bytes_under column transform) (length_of column) (width_of transform) g h under keeps y x
 
-  land : (leaf x : Predicate (List ℕ)) → AllOf g (literals_in leaf) → project_bytes question column transform leaf ≡ ok (some x)
+  land : (leaf x : Predicate (List ℕ)) → AllOf g (literals_in leaf) → project_bytes question column transform leaf ≡ Ok (some x)
       → Landed h (length (literals_in leaf)) x
   unfolding project_bytes
   land leaf x fine e =
@@ -121,16 +121,16 @@ module _ (question : Question) (column : PrimitiveType) (transform : Transform) 
 
 -- what every beginning keeps, a value has from the byte string it is made of, and a returned predicate's literals have from the leaf's
 module _ (g : List ℕ → Type 0) (begins : (s : List ℕ) (k : ℕ) → g s → g (take k s)) where
-  begin_keeps : (column : PrimitiveType) (transform : Transform) (s t : List ℕ) → transform_bytes column transform s ≡ ok (present t) → g s → g t
+  begin_keeps : (column : PrimitiveType) (transform : Transform) (s t : List ℕ) → transform_bytes column transform s ≡ Ok (present t) → g s → g t
   begin_keeps column transform s t e x = rw (bytes_begin column transform s t e).beginning (begins s (length t) x)
 
   pub bytes_hand_on : (question : Question) (column : PrimitiveType) (transform : Transform) (leaf x : Predicate (List ℕ)) → AllOf g (literals_in leaf)
-      → project_bytes question column transform leaf ≡ ok (some x) → AllOf g (literals_in x)
+      → project_bytes question column transform leaf ≡ Ok (some x) → AllOf g (literals_in x)
   bytes_hand_on question column transform leaf x fine e =
       (land question column transform g g (begin_keeps column transform) (λ l k. k) leaf x fine e).all
 
 -- a String's values are UTF-8 as it is
-held_to : (column to : PrimitiveType) (transform : Transform) → known transform ≡ true → result_type transform column ≡ ok to
+held_to : (column to : PrimitiveType) (transform : Transform) → known transform ≡ true → result_type transform column ≡ Ok to
     → (s t : List ℕ) → (column ≡ String → utf8 s ≡ true → utf8 t ≡ true) → HeldIn column s → HeldIn to t
 held_to column to transform n r s t k held = go (same_type to String) refl
   where
@@ -139,7 +139,7 @@ held_to column to transform n r s t k held = go (same_type to String) refl
     go true e = let string = string_result transform column n (rw (same_type_lem to String e) at r) in k string (rw string at held)
 
 pub bytes_land : (question : Question) (column to : PrimitiveType) (transform : Transform) (leaf x : Predicate (List ℕ))
-    → result_type transform column ≡ ok to → AllOf (HeldIn column) (literals_in leaf) → project_bytes question column transform leaf ≡ ok (some x)
+    → result_type transform column ≡ Ok to → AllOf (HeldIn column) (literals_in leaf) → project_bytes question column transform leaf ≡ Ok (some x)
     → Landed (HeldIn to) (length (literals_in leaf)) x
 unfolding project_bytes
 bytes_land question column to transform leaf x r fine e =
@@ -161,21 +161,21 @@ take_short : (n : ℕ) (s : List ℕ) (k : ℕ) → length s ≤ n → length (t
 take_short n s k h = omega (arith, take-le k s)
 
 pub bytes_short : (n : ℕ) (question : Question) (column : PrimitiveType) (transform : Transform) (leaf x : Predicate (List ℕ))
-    → AllOf (λ s. length s ≤ n) (literals_in leaf) → project_bytes question column transform leaf ≡ ok (some x)
+    → AllOf (λ s. length s ≤ n) (literals_in leaf) → project_bytes question column transform leaf ≡ Ok (some x)
     → AllOf (λ t. length t ≤ n) (literals_in x)
 bytes_short n question column transform leaf x fine e =
     bytes_hand_on (λ s. length s ≤ n) (take_short n) question column transform leaf x fine e
 
 -- ---- partition values
 
-module _ {A B : Type 0} (g : A → Type 0) (h : B → Type 0) (value : A → Res (Row B)) (gives : (v : A) (t : B) → value v ≡ ok (present t) → g v → h t) where
-  row_lands : (r : Row A) (p : Row B) → of_row value r ≡ ok p → OfPresent g r → OfPresent h p
+module _ {A B : Type 0} (g : A → Type 0) (h : B → Type 0) (value : A → Res (Row B)) (gives : (v : A) (t : B) → value v ≡ Ok (present t) → g v → h t) where
+  row_lands : (r : Row A) (p : Row B) → of_row value r ≡ Ok p → OfPresent g r → OfPresent h p
   row_lands r missing e x = tt
   row_lands missing (present t) e x = missing_not_present (ok_inj e)
   row_lands (present v) (present t) e x = gives v t e x
 
-pub number_partition_lands : (column to : PrimitiveType) (transform : Transform) (r p : Row ℤ) → result_type transform column ≡ ok to
-    → number_partition column transform r ≡ ok p → OfPresent (InType column) r → OfPresent (InType to) p
+pub number_partition_lands : (column to : PrimitiveType) (transform : Transform) (r p : Row ℤ) → result_type transform column ≡ Ok to
+    → number_partition column transform r ≡ Ok p → OfPresent (InType column) r → OfPresent (InType to) p
 number_partition_lands column to transform r p t e x =
     row_lands
     (InType column)
@@ -187,8 +187,8 @@ number_partition_lands column to transform r p t e x =
     (number_row_lem column transform r p e).1
     x
 
-pub bytes_partition_lands : (column to : PrimitiveType) (transform : Transform) (r p : Row (List ℕ)) → result_type transform column ≡ ok to
-    → bytes_partition column transform r ≡ ok p → OfPresent (HeldIn column) r → OfPresent (HeldIn to) p
+pub bytes_partition_lands : (column to : PrimitiveType) (transform : Transform) (r p : Row (List ℕ)) → result_type transform column ≡ Ok to
+    → bytes_partition column transform r ≡ Ok p → OfPresent (HeldIn column) r → OfPresent (HeldIn to) p
 bytes_partition_lands column to transform r p t e x =
     let a = bytes_row column transform r p e in
     row_lands
@@ -203,10 +203,10 @@ bytes_partition_lands column to transform r p t e x =
 
 -- what every beginning keeps, as that it is short, a partition value has from its row
 pub bytes_partition_hand_on : (g : List ℕ → Type 0) → ((s : List ℕ) (k : ℕ) → g s → g (take k s))
-    → (column : PrimitiveType) (transform : Transform) (r p : Row (List ℕ)) → bytes_partition column transform r ≡ ok p → OfPresent g r → OfPresent g p
+    → (column : PrimitiveType) (transform : Transform) (r p : Row (List ℕ)) → bytes_partition column transform r ≡ Ok p → OfPresent g r → OfPresent g p
 bytes_partition_hand_on g begins column transform r p e x =
     row_lands g g (transform_bytes column transform) (begin_keeps g begins column transform) r p (bytes_row column transform r p e).1 x
 
-pub bytes_partition_short : (n : ℕ) (column : PrimitiveType) (transform : Transform) (r p : Row (List ℕ)) → bytes_partition column transform r ≡ ok p
+pub bytes_partition_short : (n : ℕ) (column : PrimitiveType) (transform : Transform) (r p : Row (List ℕ)) → bytes_partition column transform r ≡ Ok p
     → OfPresent (λ s. length s ≤ n) r → OfPresent (λ t. length t ≤ n) p
 bytes_partition_short n column transform r p e x = bytes_partition_hand_on (λ s. length s ≤ n) (take_short n) column transform r p e x

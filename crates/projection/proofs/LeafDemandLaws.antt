@@ -1,8 +1,8 @@
 -- Demand 3 over leaves, of every type, transform and width. Assumes nothing.
-use Rattle.std.specs.Prelude.{ℕ, ◌≤◌, Bool, true, false, cond, not, ◌||◌, List, ◌≡◌, ℤ, length, ◌≤ℤ◌}
+use Rattle.std.specs.Prelude.{ℕ, Bool, true, false, cond, not, ◌||◌, List, ◌≡◌, ℤ, length, ◌≤ℤ◌, Ok}
 use Rattle.std.proofs.Common.{⊎_elim, sym, ap, ◌∙◌}
 use Rattle.values.specs.code.Places.{AllOf}
-use Rattle.values.specs.Outcomes.{Res, ok, Row, missing, present}
+use Rattle.values.specs.Outcomes.{Res, Row, missing, present}
 use Rattle.values.specs.laws.OutcomeLaws.{ok_inj, present_inj}
 use Rattle.values.specs.Order.{compare_numbers, compare_bytes}
 use Rattle.values.specs.laws.OrderLaws.{bytes_order}
@@ -43,7 +43,7 @@ use Rattle.projection.specs.declared.question.Question.TheVariants.{Inclusive, S
 
 -- ---- numbers
 module _ (column : PrimitiveType) (transform : Transform) where
-  pub under_mono : (v w p q : ℤ) → number_under column transform v ≡ ok p → number_under column transform w ≡ ok q → v ≤ℤ w → p ≤ℤ q
+  pub under_mono : (v w p q : ℤ) → number_under column transform v ≡ Ok p → number_under column transform w ≡ Ok q → v ≤ℤ w → p ≤ℤ q
   under_mono v w p q a b h =
       number_mono
       column
@@ -54,7 +54,7 @@ module _ (column : PrimitiveType) (transform : Transform) where
       ((literal_value (transform_number column transform) w q).0 b)
       h
 
-  pub never_missing : by_steps transform ≡ true → (v : ℤ) → transform_number column transform v ≡ ok missing → ⊥
+  pub never_missing : by_steps transform ≡ true → (v : ℤ) → transform_number column transform v ≡ Ok missing → ⊥
   never_missing h v e = clash h (ap by_steps (number_missing column transform v e))
 
   steps_strict : by_steps transform ≡ true → (leaf : Predicate ℤ) → AllOf (InType column) (literals_in leaf)
@@ -93,10 +93,10 @@ module _ (column : PrimitiveType) (transform : Transform) where
       (number_step_missing Inclusive column transform x))
 
   -- under Identity a row is its own partition value
-  pub identity_row : transform ≡ Identity → (r p : Row ℤ) → of_row (transform_number column transform) r ≡ ok p → r ≡ p
+  pub identity_row : transform ≡ Identity → (r p : Row ℤ) → of_row (transform_number column transform) r ≡ Ok p → r ≡ p
   identity_row t r p e = same_row (transform_number column transform) own r p e
     where
-      own : (v : ℤ) (p : Row ℤ) → transform_number column transform v ≡ ok p → present v ≡ p
+      own : (v : ℤ) (p : Row ℤ) → transform_number column transform v ≡ Ok p → present v ≡ p
       own v p e = ok_inj (sym (number_identity column v) ∙ (rw t at e))
 
   strict_course : (leaf q : Predicate ℤ) → AllOf (InType column) (literals_in leaf) → Course compare_numbers (number_step column transform Strict) transform leaf q
@@ -135,23 +135,19 @@ bytes_cutting column w = go (same_type column String)
     go true = string_cutting w
     go false = binary_cutting w
 
--- a literal no longer than the width stays whole
-pub whole_stays : (column : PrimitiveType) (w : ℕ) (l : List ℕ) → length_of column l ≤ w → truncate_bytes column w l ≡ l
-whole_stays column w l h = (bytes_cutting column w).whole l h
-
 truncated_value : (question : Question) (column : PrimitiveType) (w : ℕ) (x q : Test (List ℕ)) → AllOf (HeldIn column) (literals_in (test x))
-    → bytes_step column (Truncate w) question x ≡ ok (some q)
-    → (v p : List ℕ) → HeldIn column v → transform_bytes column (Truncate w) v ≡ ok (present p)
+    → bytes_step column (Truncate w) question x ≡ Ok (some q)
+    → (v p : List ℕ) → HeldIn column v → transform_bytes column (Truncate w) v ≡ Ok (present p)
     → Demanded question (meets bytes_tests x v) (meets bytes_tests q p)
 truncated_value question column w x q fine d v p held e = rw (present_inj (ok_inj (sym e ∙ bytes_truncates column w v))) (go question d)
   where
     T : List ℕ → Res (List ℕ)
     T = bytes_under column (Truncate w)
 
-    gives : (s : List ℕ) → T s ≡ ok (truncate_bytes column w s)
+    gives : (s : List ℕ) → T s ≡ Ok (truncate_bytes column w s)
     gives s = (literal_value (transform_bytes column (Truncate w)) s (truncate_bytes column w s)).1 (bytes_truncates column w s)
 
-    go : (question : Question) → bytes_step column (Truncate w) question x ≡ ok (some q)
+    go : (question : Question) → bytes_step column (Truncate w) question x ≡ Ok (some q)
         → Demanded question (meets bytes_tests x v) (meets bytes_tests q (truncate_bytes column w v))
     go Inclusive d = returned (bytes_step column (Truncate w) Inclusive x) _ (follows (bytes_cutting column w) T gives column x fine) d v held
     go Strict d = returned (bytes_step column (Truncate w) Strict x) _ (leads (bytes_cutting column w) T gives x fine) d v held
@@ -160,8 +156,8 @@ truncated_value question column w x q fine d v p held e = rw (present_inj (ok_in
 module _ (question : Question) (column : PrimitiveType) (transform : Transform) where
   -- projections go by steps under Truncate alone
   bytes_value_lem : by_steps transform ≡ true → (x q : Test (List ℕ)) → AllOf (HeldIn column) (literals_in (test x))
-      → bytes_step column transform question x ≡ ok (some q)
-      → (v p : List ℕ) → HeldIn column v → transform_bytes column transform v ≡ ok (present p)
+      → bytes_step column transform question x ≡ Ok (some q)
+      → (v p : List ℕ) → HeldIn column v → transform_bytes column transform v ≡ Ok (present p)
       → Demanded question (meets bytes_tests x v) (meets bytes_tests q p)
   bytes_value_lem h x q fine d v p held e =
       ⊎_elim
@@ -169,7 +165,7 @@ module _ (question : Question) (column : PrimitiveType) (transform : Transform) 
       (λ k. truncated_value question column k.0 x q fine (rw k.1 at d) v p held (rw k.1 at e))
       (bytes_present column transform v p e)
 
-  bytes_never : by_steps transform ≡ true → (v : List ℕ) → transform_bytes column transform v ≡ ok missing → ⊥
+  bytes_never : by_steps transform ≡ true → (v : List ℕ) → transform_bytes column transform v ≡ Ok missing → ⊥
   bytes_never h v e = clash h (ap by_steps (bytes_missing column transform v e))
 
   bytes_steps : by_steps transform ≡ true → (leaf : Predicate (List ℕ)) → AllOf (HeldIn column) (literals_in leaf)
@@ -179,15 +175,15 @@ module _ (question : Question) (column : PrimitiveType) (transform : Transform) 
       returned_map
       test
       (bytes_step column transform question x)
-      (λ q. bytes_step column transform question x ≡ ok (some q))
+      (λ q. bytes_step column transform question x ≡ Ok (some q))
       (Sound bytes_tests bytes_tests (HeldIn column) question (of_row (transform_bytes column transform)) (test x))
       (λ q d. tests_sound bytes_tests bytes_tests (HeldIn column) (transform_bytes column transform) (bytes_never h) question x q (same q d) (bytes_value_lem h x q fine d))
-      (returned_by (bytes_step column transform question x) (λ q. bytes_step column transform question x ≡ ok (some q)) (λ q d. d))
+      (returned_by (bytes_step column transform question x) (λ q. bytes_step column transform question x ≡ Ok (some q)) (λ q d. d))
     where
-      same : (q : Test (List ℕ)) → bytes_step column transform question x ≡ ok (some q) → SameMissing x q
+      same : (q : Test (List ℕ)) → bytes_step column transform question x ≡ Ok (some q) → SameMissing x q
       same q d = returned (bytes_step column transform question x) (λ p. SameMissing x p) (bytes_step_missing question column transform x) d
 
-  bytes_own : transform ≡ Identity → (r p : Row (List ℕ)) → of_row (transform_bytes column transform) r ≡ ok p → r ≡ p
+  bytes_own : transform ≡ Identity → (r p : Row (List ℕ)) → of_row (transform_bytes column transform) r ≡ Ok p → r ≡ p
   bytes_own t r p e = same_row (transform_bytes column transform) (λ v p e. ok_inj (sym (bytes_identity column v) ∙ (rw t at e))) r p e
 
   bytes_course : (leaf q : Predicate (List ℕ)) → AllOf (HeldIn column) (literals_in leaf)
@@ -197,7 +193,7 @@ module _ (question : Question) (column : PrimitiveType) (transform : Transform) 
       rw e (itself_sound bytes_tests bytes_order.equal (HeldIn column) (of_row (transform_bytes column transform)) (bytes_own t) question leaf)
   bytes_course leaf q fine (stepped h e) = returned (through (bytes_step column transform question) leaf) _ (bytes_steps h leaf fine) e
 
-  bytes_sound : (leaf q : Predicate (List ℕ)) → AllOf (HeldIn column) (literals_in leaf) → project_bytes question column transform leaf ≡ ok (some q)
+  bytes_sound : (leaf q : Predicate (List ℕ)) → AllOf (HeldIn column) (literals_in leaf) → project_bytes question column transform leaf ≡ Ok (some q)
       → Sound bytes_tests bytes_tests (HeldIn column) question (bytes_partition column transform) leaf q
   unfolding project_bytes
   bytes_sound leaf q fine e =

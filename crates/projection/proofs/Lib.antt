@@ -1,4 +1,4 @@
--- Laws of the steps, the lowest first; an edit of a step breaks them. `QuestionArms` has what the proofs of the crates above share.
+-- Laws of the steps, the lowest first; an edit of a step breaks them.
 pub mod OppositeLaws
 pub mod MissingLaws
 pub mod NumberLaws
@@ -6,4 +6,3 @@ pub mod LeafDemandLaws
 pub mod OlderLeafDemandLaws
 pub mod LiteralLaws
 pub mod LandingLaws
-pub mod QuestionArms

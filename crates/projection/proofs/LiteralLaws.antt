@@ -1,18 +1,18 @@
 -- The literals that the steps put into a predicate: where they lie, and how many they are. Assumes nothing.
-use Rattle.std.specs.Prelude.{ℕ, ◌*◌, ◌≤◌, List, [], ◌∷◌, ◌≡◌, leb, ℤ, pos, negsuc, length, ◌<ℤ◌}
+use Rattle.std.specs.Prelude.{ℕ, ◌*◌, ◌≤◌, List, [], ◌∷◌, ◌≡◌, leb, ℤ, pos, negsuc, length, ◌<ℤ◌, Ok}
 use Rattle.std.proofs.Common.{arith, ap}
 use Rattle.std.proofs.Math.IntN.{suc_ℤ, pred_ℤ}
 use Rattle.values.specs.code.Places.{AllOf}
 use Rattle.values.specs.laws.AscendingLaws.{all_ascending, length_ascending}
 use Rattle.values.specs.laws.IntLaws.{ints}
 use Rattle.values.specs.Order.{compare_numbers, compare_bytes}
-use Rattle.values.specs.Outcomes.{Res, ok, need, ◌>>◌}
+use Rattle.values.specs.Outcomes.{Res, need, ◌>>◌}
 use Rattle.values.specs.laws.OutcomeLaws.{each_length, each_all, passed}
 use Rattle.values.specs.Types.{in_type, same_type}
 use Rattle.values.specs.declared.datatypes.PrimitiveType.{PrimitiveType}
 use Rattle.values.specs.declared.datatypes.PrimitiveType.TheVariants.{String}
 use Rattle.values.specs.declared.error.ErrorKind.TheVariants.{Overflow}
-use Rattle.values.specs.declared.order.Ordering.{Ordering}
+use Rattle.std.specs.declared.cmp.Ordering.{Ordering}
 use Rattle.values.specs.declared.transform.Transform.{Transform}
 use Rattle.values.specs.declared.transform.Transform.TheVariants.{Identity}
 use Rattle.partition.specs.code.PartitionAnswers.{InType}
@@ -36,10 +36,10 @@ all_map g h k [] x = tt
 all_map g h k (v ∷ xs) x = (k v x.0, all_map g h k xs x.1)
 
 module _ {A : Type 0} (compare : A → A → Ordering) (h : A → Type 0) where
-  one_lands : (o : Binary) (r : Res A) → ((t : A) → r ≡ ok t → h t) → Returned (with_literal o r) (λ q. Landed h 1 (test q))
+  one_lands : (o : Binary) (r : Res A) → ((t : A) → r ≡ Ok t → h t) → Returned (with_literal o r) (λ q. Landed h 1 (test q))
   one_lands o r k = returned_literal o r (λ q. Landed h 1 (test q)) (λ t e. record { all = (k t e, tt); count = omega arith })
 
-  each_lands : (o : SetOperator) (T : A → Res A) (g : A → Type 0) → ((l t : A) → T l ≡ ok t → g l → h t) → (ls : List A) → AllOf g ls
+  each_lands : (o : SetOperator) (T : A → Res A) (g : A → Type 0) → ((l t : A) → T l ≡ Ok t → g l → h t) → (ls : List A) → AllOf g ls
       → Returned (with_each compare o T ls) (λ q. Landed h (length ls) (test q))
   each_lands o T g k ls x =
       returned_each compare o T ls (λ q. Landed h (length ls) (test q)) (λ ts e. record {
@@ -74,7 +74,7 @@ module _ {A : Type 0} (compare : A → A → Ordering) (h : A → Type 0) where
         rw e (record { all = k.all; count = omega (arith, k.count, enough (length (literals_in leaf))) })
     course_lands leaf x all (stepped t e) = returned (through step leaf) (Landed h (most (length (literals_in leaf)))) (through_lands leaf all) e
 
-    pub lands : (leaf x : Predicate A) → AllOf g (literals_in leaf) → by_transform compare step transform leaf ≡ ok (some x)
+    pub lands : (leaf x : Predicate A) → AllOf g (literals_in leaf) → by_transform compare step transform leaf ≡ Ok (some x)
         → Landed h (most (length (literals_in leaf))) x
     lands leaf x all e = course_lands leaf x all (course compare step transform leaf x e).1
 
@@ -117,7 +117,7 @@ module _ (h : ℤ → Type 0) (next : (z : ℤ) → z <ℤ pos 0 → h z → h (
       let a = lift_lands n (opposite q) (same_literals n q (opposite q) (opposite_literals q) k) in
       rw (older_is q) (same_literals (2 * n) (lift (opposite q)) (opposite (lift (opposite q))) (opposite_literals (lift (opposite q))) a)
 
-module _ (column : PrimitiveType) (T : ℤ → Res ℤ) (h : ℤ → Type 0) (gives : (l t : ℤ) → T l ≡ ok t → InType column l → h t) where
+module _ (column : PrimitiveType) (T : ℤ → Res ℤ) (h : ℤ → Type 0) (gives : (l t : ℤ) → T l ≡ Ok t → InType column l → h t) where
   number : (o : Binary) (l : ℤ) → InType column l → Returned (with_literal o (T l)) (λ q. Landed h 1 (test q))
   number o l x = one_lands compare_numbers h o (T l) (λ t e. gives l t e x)
 
@@ -156,7 +156,7 @@ module _ (column : PrimitiveType) (T : ℤ → Res ℤ) (h : ℤ → Type 0) (gi
 
 -- ---- strings and binaries: a literal stays, or T(L) is put for it
 module _ (T : List ℕ → Res (List ℕ)) (count : List ℕ → ℕ) (w : ℕ) (g h : List ℕ → Type 0)
-    (gives : (l t : List ℕ) → T l ≡ ok t → g l → h t) (keeps : (l : List ℕ) → g l → h l) where
+    (gives : (l t : List ℕ) → T l ≡ Ok t → g l → h t) (keeps : (l : List ℕ) → g l → h l) where
   changed : (o : Binary) (l : List ℕ) → g l → Returned (with_literal o (T l)) (λ q. Landed h 1 (test q))
   changed o l x = one_lands compare_bytes h o (T l) (λ t e. gives l t e x)
 
@@ -185,8 +185,8 @@ module _ (T : List ℕ → Res (List ℕ)) (count : List ℕ → ℕ) (w : ℕ) 
       (changed starts_with l x.0)
   inclusive_bytes_lem column (binary not_starts_with l) x =
       returned_cond (same_type column String) (string_not_starts T count w l) (binary_not_starts T count w l) (λ q. Landed h 1 (test q))
-      (starts not_eq not_starts_with l (ok none) x.0 tt)
-      (returned_cond (leb (count l) w) (with_literal not_starts_with (T l)) (ok none) (λ q. Landed h 1 (test q)) (changed not_starts_with l x.0) tt)
+      (starts not_eq not_starts_with l (Ok none) x.0 tt)
+      (returned_cond (leb (count l) w) (with_literal not_starts_with (T l)) (Ok none) (λ q. Landed h 1 (test q)) (changed not_starts_with l x.0) tt)
   inclusive_bytes_lem column (set is_in ls) x = byte_sets is_in ls x
   inclusive_bytes_lem column (set not_in ls) x = tt
 
@@ -198,7 +198,7 @@ module _ (T : List ℕ → Res (List ℕ)) (count : List ℕ → ℕ) (w : ℕ) 
   strict_bytes_lem (binary greater_than_or_eq l) x = changed greater_than l x.0
   strict_bytes_lem (binary eq l) x = tt
   strict_bytes_lem (binary not_eq l) x = changed not_eq l x.0
-  strict_bytes_lem (binary starts_with l) x = starts eq starts_with l (ok none) x.0 tt
+  strict_bytes_lem (binary starts_with l) x = starts eq starts_with l (Ok none) x.0 tt
   strict_bytes_lem (binary not_starts_with l) x = starts not_eq not_starts_with l (with_literal not_starts_with (T l)) x.0 (changed not_starts_with l x.0)
   strict_bytes_lem (set is_in ls) x = tt
   strict_bytes_lem (set not_in ls) x = byte_sets not_in ls x

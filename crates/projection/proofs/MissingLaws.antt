@@ -1,13 +1,13 @@
 -- A returned test has of a missing value what the leaf has: row by row of both tables, lifted or not. Assumes nothing.
-use Rattle.std.specs.Prelude.{ℕ, Bool, true, false, List, ◌≡◌, refl, leb, ℤ, pos, negsuc}
+use Rattle.std.specs.Prelude.{ℕ, Bool, true, false, List, ◌≡◌, refl, leb, ℤ, pos, negsuc, Ok}
 use Rattle.std.proofs.Common.{◌∙◌}
 use Rattle.values.specs.Order.{compare_numbers, compare_bytes}
-use Rattle.values.specs.Outcomes.{Res, ok}
+use Rattle.values.specs.Outcomes.{Res}
 use Rattle.values.specs.Transforms.{width_of}
 use Rattle.values.specs.Types.{same_type}
 use Rattle.values.specs.declared.datatypes.PrimitiveType.{PrimitiveType}
 use Rattle.values.specs.declared.datatypes.PrimitiveType.TheVariants.{String}
-use Rattle.values.specs.declared.order.Ordering.{Ordering}
+use Rattle.std.specs.declared.cmp.Ordering.{Ordering}
 use Rattle.values.specs.declared.transform.Transform.{Transform}
 use Rattle.expr.specs.Holds.{missing_meets}
 use Rattle.expr.specs.Operators.{Binary, SetOperator, one, many, less_than, less_than_or_eq, greater_than, greater_than_or_eq, eq, not_eq, starts_with, not_starts_with, is_in, not_in}
@@ -137,8 +137,8 @@ module _ (T : List ℕ → Res (List ℕ)) (count : List ℕ → ℕ) (w : ℕ) 
       (cut_missing starts_with l)
   inclusive_bytes_missing column (binary not_starts_with l) =
       returned_cond (same_type column String) (string_not_starts T count w l) (binary_not_starts T count w l) (λ q. SameMissing (binary not_starts_with l) q)
-      (length_missing (binary not_starts_with l) l not_eq not_starts_with (ok none) refl refl tt)
-      (returned_cond (leb (count l) w) (with_literal not_starts_with (T l)) (ok none) (λ q. SameMissing (binary not_starts_with l) q) (cut_missing not_starts_with l) tt)
+      (length_missing (binary not_starts_with l) l not_eq not_starts_with (Ok none) refl refl tt)
+      (returned_cond (leb (count l) w) (with_literal not_starts_with (T l)) (Ok none) (λ q. SameMissing (binary not_starts_with l) q) (cut_missing not_starts_with l) tt)
   inclusive_bytes_missing column (set is_in ls) = each_missing (set is_in ls) compare_bytes is_in T ls refl
   inclusive_bytes_missing column (set not_in ls) = tt
 
@@ -149,7 +149,7 @@ module _ (T : List ℕ → Res (List ℕ)) (count : List ℕ → ℕ) (w : ℕ) 
   strict_bytes_missing (binary greater_than_or_eq l) = one_missing (binary greater_than_or_eq l) greater_than (T l) refl
   strict_bytes_missing (binary eq l) = tt
   strict_bytes_missing (binary not_eq l) = cut_missing not_eq l
-  strict_bytes_missing (binary starts_with l) = length_missing (binary starts_with l) l eq starts_with (ok none) refl refl tt
+  strict_bytes_missing (binary starts_with l) = length_missing (binary starts_with l) l eq starts_with (Ok none) refl refl tt
   strict_bytes_missing (binary not_starts_with l) =
       length_missing (binary not_starts_with l) l not_eq not_starts_with (with_literal not_starts_with (T l)) refl refl (cut_missing not_starts_with l)
   strict_bytes_missing (set is_in ls) = tt

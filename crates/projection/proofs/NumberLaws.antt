@@ -1,6 +1,6 @@
 -- The steps for numbers are exact, over the numbers of a column's type, under any partial map that keeps the order: one argument for all transforms of
 -- numbers. Assumes nothing.
-use Rattle.std.specs.Prelude.{Bool, true, false, ◌⊎◌, ◌↔◌, ◌≡◌, refl, ℤ, ◌≤ℤ◌}
+use Rattle.std.specs.Prelude.{Bool, true, false, ◌⊎◌, ◌↔◌, ◌≡◌, refl, ℤ, ◌≤ℤ◌, Ok, Err}
 use mathlib.Core.List.Memᴰ.{eq_of_singleton}
 use mathlib.Core.List.{[], ◌∷◌}
 use Rattle.std.proofs.Common.{inl, inr, ⊎_elim, sym, ap, ◌∙◌}
@@ -11,7 +11,7 @@ use Rattle.values.specs.laws.AscendingLaws.{all_isin}
 use Rattle.values.specs.laws.IntLaws.{ints, le_or_lt, ≤ℤ_antisym}
 use Rattle.values.specs.Order.{compare_numbers}
 use Rattle.values.specs.laws.OrderLaws.{is_at_most}
-use Rattle.values.specs.Outcomes.{Res, ok, err, ◌>>=◌}
+use Rattle.values.specs.Outcomes.{Res, ◌>>=◌}
 use Rattle.values.specs.laws.OutcomeLaws.{passed}
 use Rattle.values.specs.laws.TestLaws.{stable, refuted, clash}
 use Rattle.values.specs.Types.{in_type}
@@ -57,23 +57,23 @@ downwards = record {
 -- x asks for the numbers before k, and q for those before T(k). Of a number v after k, T(v) is before T(k) only where they are equal: then k itself
 -- meets x
 module _ (column : PrimitiveType) (T : ℤ → Res ℤ) (before : ℤ → ℤ → Type 0) (order : Order before)
-    (mono : (v w p q : ℤ) → T v ≡ ok p → T w ≡ ok q → before v w → before p q) (k t : ℤ) (e : Has column T k t) (x q : Test ℤ)
+    (mono : (v w p q : ℤ) → T v ≡ Ok p → T w ≡ Ok q → before v w → before p q) (k t : ℤ) (e : Has column T k t) (x q : Test ℤ)
     (x_is : (v : ℤ) → (meets number_tests x v ≡ true) ↔ before v k) (q_is : (p : ℤ) → (meets number_tests q p ≡ true) ↔ before p t) where
   bound : Rises q → literals_in (test q) ≡ t ∷ [] → Exact column T x q
   bound r one = record {
     kept = λ v p h m. (q_is p).1 (mono v k p t h.1 e.1 ((x_is v).0 m));
     needed = λ v p h m. ⊎_elim
         (λ b. (v, h, (x_is v).1 b))
-        (λ b. (k, (e.0, e.1 ∙ ap ok (order.both t p (mono k v t p e.1 h.1 b) ((q_is p).0 m))), (x_is k).1 (order.self k)))
+        (λ b. (k, (e.0, e.1 ∙ ap Ok (order.both t p (mono k v t p e.1 h.1 b) ((q_is p).0 m))), (x_is k).1 (order.self k)))
         (order.either v k);
     rises = r;
-    literals = λ l m. (k, (e.0, e.1 ∙ ap ok (sym (eq_of_singleton (rw one at m)))));
+    literals = λ l m. (k, (e.0, e.1 ∙ ap Ok (sym (eq_of_singleton (rw one at m)))));
   }
 
 -- ---- strict: the opposite of the inclusive answer to the opposite leaf, where strict has one
 module _ (column : PrimitiveType) (T : ℤ → Res ℤ) (g : Test ℤ → Type 0) where
   turned : (x : Test ℤ) → Returned (inclusive_number column T (opposite x)) (λ q. g (opposite q))
-      → Returned (inclusive_number column T (opposite x) >>= λ q. ok (mapped opposite q)) g
+      → Returned (inclusive_number column T (opposite x) >>= λ q. Ok (mapped opposite q)) g
   turned x r = returned_map opposite (inclusive_number column T (opposite x)) (λ q. g (opposite q)) g (λ q k. k) r
 
   pub strict_by : (x : Test ℤ) → Returned (inclusive_number column T (opposite x)) (λ q. g (opposite q)) → Returned (strict_number column T x) g
@@ -88,7 +88,7 @@ module _ (column : PrimitiveType) (T : ℤ → Res ℤ) (g : Test ℤ → Type 0
   strict_by (set is_in ls) r = tt
   strict_by (set not_in ls) r = rw (opposite_each compare_numbers is_in T ls) at (turned (set not_in ls) r)
 
-module _ (column : PrimitiveType) (T : ℤ → Res ℤ) (mono : (v w p q : ℤ) → T v ≡ ok p → T w ≡ ok q → v ≤ℤ w → p ≤ℤ q) where
+module _ (column : PrimitiveType) (T : ℤ → Res ℤ) (mono : (v w p q : ℤ) → T v ≡ Ok p → T w ≡ Ok q → v ≤ℤ w → p ≤ℤ q) where
   at_most : (k t : ℤ) (x : Test ℤ) → Has column T k t → ((v : ℤ) → (meets number_tests x v ≡ true) ↔ (v ≤ℤ k)) → Exact column T x (binary less_than_or_eq t)
   at_most k t x e is = bound column T (λ a b. a ≤ℤ b) upwards mono k t e x (binary less_than_or_eq t) is (λ p. is_at_most p t) (at_most_rises t) refl
 
@@ -113,9 +113,9 @@ module _ (column : PrimitiveType) (T : ℤ → Res ℤ) (mono : (v w p q : ℤ) 
   -- Eq and In ask no order
   equals_exact : (x : Test ℤ) (r : Res (Projected (Test ℤ))) → AllOf (InType column) (literals_in (test x))
       → Returned r (Equals number_tests number_tests number_tells number_tells T x) → Returned r Rises → Returned r (Exact column T x)
-  equals_exact x (ok none) fine s rise = tt
-  equals_exact x (err e) fine s rise = tt
-  equals_exact x (ok (some q)) fine s rise = record {
+  equals_exact x (Ok none) fine s rise = tt
+  equals_exact x (Err e) fine s rise = tt
+  equals_exact x (Ok (some q)) fine s rise = record {
     kept = λ v p h m. s.kept v p h.1 m;
     needed = λ v p h m. let l = s.needed p m in (l.0, from l, s.own l.0 l.2);
     rises = rise;
@@ -163,14 +163,14 @@ module _ (column : PrimitiveType) (T : ℤ → Res ℤ) (mono : (v w p q : ℤ) 
         kept = λ v p h m. m;
         needed = λ v p h m. clash m refl;
         rises = λ z g m. m;
-        literals = λ k m. (l, (fine.0, e ∙ ap ok (sym (eq_of_singleton m))));
+        literals = λ k m. (l, (fine.0, e ∙ ap Ok (sym (eq_of_singleton m))));
       })
   inclusive_exact (binary not_starts_with l) fine =
       returned_literal not_starts_with (T l) (Exact column T (binary not_starts_with l)) (λ t e. record {
         kept = λ v p h m. m;
         needed = λ v p h m. (v, h, m);
         rises = λ z g m. m;
-        literals = λ k m. (l, (fine.0, e ∙ ap ok (sym (eq_of_singleton m))));
+        literals = λ k m. (l, (fine.0, e ∙ ap Ok (sym (eq_of_singleton m))));
       })
   inclusive_exact (set is_in ls) fine =
       equals_exact
@@ -198,7 +198,7 @@ module _ (column : PrimitiveType) (T : ℤ → Res ℤ) (mono : (v w p q : ℤ) 
   same_exact x q exact v p h = (λ m. inl (exact.needed v p h m), λ o. ⊎_elim (λ k. exact.kept k.0 p k.1 k.2) (λ a. clash a.0 refl) o)
 
   pub lifted_exact : (lifts : Bool) (x : Test ℤ) → AllOf (InType column) (literals_in (test x))
-      → Returned (inclusive_number column T x >>= λ q. ok (lifted_by lifts q)) (LiftedExact column T lifts x)
+      → Returned (inclusive_number column T x >>= λ q. Ok (lifted_by lifts q)) (LiftedExact column T lifts x)
   lifted_exact lifts x fine =
       returned_lifted lifts (inclusive_number column T x) (Exact column T x) (LiftedExact column T lifts x) (go lifts) (inclusive_exact x fine)
     where

@@ -1,13 +1,13 @@
 -- Files of older writers: inclusive predicates lose none of their rows, and those of the third question let in none that fails. One argument for all transforms
 -- that are lifted, over any partial map that keeps the order. Assumes nothing.
-use Rattle.std.specs.Prelude.{ℕ, Bool, true, false, List, ◌⊎◌, ◌≡◌, refl, ℤ, pos, ◌≤ℤ◌, ◌<ℤ◌}
+use Rattle.std.specs.Prelude.{ℕ, Bool, true, false, List, ◌⊎◌, ◌≡◌, refl, ℤ, pos, ◌≤ℤ◌, ◌<ℤ◌, Ok, Err}
 use Rattle.std.proofs.Common.{inl, inr, ⊎_elim, sym, ap, ◌∙◌}
 use Rattle.std.proofs.Math.Path.{fun_ext}
 use Rattle.std.proofs.Math.IntN.{suc_ℤ}
 use Rattle.values.specs.code.Places.{AllOf}
 use Rattle.values.specs.Order.{compare_numbers, compare_bytes}
 use Rattle.values.specs.laws.OrderLaws.{number_order}
-use Rattle.values.specs.Outcomes.{Res, ok, err, ◌>>=◌, Row, missing, present}
+use Rattle.values.specs.Outcomes.{Res, ◌>>=◌, Row, missing, present}
 use Rattle.values.specs.laws.OutcomeLaws.{ok_inj, present_inj, missing_not_present}
 use Rattle.values.specs.laws.TestLaws.{stable, clash}
 use Rattle.values.specs.declared.datatypes.PrimitiveType.{PrimitiveType}
@@ -65,13 +65,13 @@ module _ (column : PrimitiveType) (T : ℤ → Res ℤ) where
   leads lifts x q e v p f h d m =
       stable _ (λ z. clash (follows lifts (opposite x) q e v p f h d (opposite_true number_tests x v z)) (meets_false number_tests (lift_if lifts q) f m))
 
-  module _ (mono : (v w p q : ℤ) → T v ≡ ok p → T w ≡ ok q → v ≤ℤ w → p ≤ℤ q) (lifts : Bool) (x : Test ℤ) where
-    inclusive_keeps : AllOf (InType column) (literals_in (test x)) → Returned (inclusive_number column T x >>= λ q. ok (lifted_by lifts q)) (Keeps lifts x)
+  module _ (mono : (v w p q : ℤ) → T v ≡ Ok p → T w ≡ Ok q → v ≤ℤ w → p ≤ℤ q) (lifts : Bool) (x : Test ℤ) where
+    inclusive_keeps : AllOf (InType column) (literals_in (test x)) → Returned (inclusive_number column T x >>= λ q. Ok (lifted_by lifts q)) (Keeps lifts x)
     inclusive_keeps fine =
         returned_lifted lifts (inclusive_number column T x) (Exact column T x) (Keeps lifts x) (follows lifts x) (inclusive_exact column T mono x fine)
 
     older_safe : AllOf (InType column) (literals_in (test (opposite x)))
-        → Returned (strict_number column T x >>= λ q. ok (mapped (older_if lifts) q)) (Safe lifts x)
+        → Returned (strict_number column T x >>= λ q. Ok (mapped (older_if lifts) q)) (Safe lifts x)
     older_safe fine =
         returned_map
         (older_if lifts)
@@ -119,7 +119,7 @@ module _ (column : PrimitiveType) (transform : Transform) where
   Demands question leaf q = (r p f : Row ℤ) → RowOf (InType column) (of_row value) r p → Filed lifting p f
       → Demanded question (holds number_tests leaf r) (holds number_tests q f)
 
-  module _ (never : (v : ℤ) → value v ≡ ok missing → ⊥) (question : Question) where
+  module _ (never : (v : ℤ) → value v ≡ Ok missing → ⊥) (question : Question) where
     tests_filed : (x q : Test ℤ) → SameMissing x q → Filing question x q → Demands question (test x) (test q)
     tests_filed x q same k missing missing f e d = rw (← filed_missing f d) (demanded_same question (sym same))
     tests_filed x q same k missing (present z) f e d = missing_not_present (ok_inj e.1)
@@ -184,10 +184,10 @@ numbers_older_is_safe column transform leaf q fine e r p f row d =
     course_filed column transform Older (older_filing column transform) leaf q fine c.1 r p f (rw (number_rows column transform c.0) at row) d
 
 -- ---- "For other transforms it equals strict"
-unraised : (r : Res (Projected (Test ℤ))) → (r >>= λ q. ok (mapped (older_if false) q)) ≡ r
-unraised (ok (some q)) = refl
-unraised (ok none) = refl
-unraised (err e) = refl
+unraised : (r : Res (Projected (Test ℤ))) → (r >>= λ q. Ok (mapped (older_if false) q)) ≡ r
+unraised (Ok (some q)) = refl
+unraised (Ok none) = refl
+unraised (Err e) = refl
 
 pub numbers_older_is_strict : (column : PrimitiveType) (transform : Transform) (leaf : Predicate ℤ) → lifted column transform ≡ false
     → project_numbers Older column transform leaf ≡ project_numbers Strict column transform leaf

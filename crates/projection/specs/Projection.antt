@@ -1,15 +1,15 @@
 -- The projections of a leaf, by the question: what it comes to on the partition values of a column's transform. Assumes nothing.
-use Rattle.std.specs.Prelude.{ℕ, Bool, true, false, cond, List, ℤ, length}
+use Rattle.std.specs.Prelude.{ℕ, Bool, true, false, cond, List, ℤ, length, Ok, Err}
 use Rattle.values.specs.Ascending.{ascending}
 use Rattle.values.specs.Order.{compare_numbers, compare_bytes}
-use Rattle.values.specs.Outcomes.{Res, ok, err, ◌>>=◌}
+use Rattle.values.specs.Outcomes.{Res, ◌>>=◌}
 use Rattle.values.specs.Transforms.{width_of}
 use Rattle.values.specs.Types.{same_type}
 use Rattle.values.specs.Utf8.{code_points}
 use Rattle.values.specs.declared.datatypes.PrimitiveType.{PrimitiveType}
 use Rattle.values.specs.declared.datatypes.PrimitiveType.TheVariants.{String}
 use Rattle.values.specs.declared.error.ErrorKind.TheVariants.{FeatureUnsupported}
-use Rattle.values.specs.declared.order.Ordering.{Ordering}
+use Rattle.std.specs.declared.cmp.Ordering.{Ordering}
 use Rattle.values.specs.declared.transform.Transform.{Transform}
 use Rattle.values.specs.declared.transform.Transform.TheVariants.{Identity, Truncate, Year, Month, Day, Hour, Void, Unknown}
 use Rattle.partition.specs.Partition.{transform_number, transform_bytes}
@@ -31,22 +31,22 @@ in_order compare (test (set o ls)) = test (set o (ascending compare ls))
 
 -- 01: "101–104 pass through unchanged"
 abbrev pub through : {A B : Type 0} → (Test A → Res (Projected (Test B))) → Predicate A → Res (Projected (Predicate B))
-through step (unary o) = ok (some (unary o))
+through step (unary o) = Ok (some (unary o))
 through step (test t) = do
   q ← step t
-  ok (mapped test q)
+  Ok (mapped test q)
 
 -- 01: "Checks run .. 5, then Unknown (7), then the steps below"; "Void: no predicate for any operator"; "Identity: the leaf itself"
 module _ {A : Type 0} (compare : A → A → Ordering) (step : Test A → Res (Projected (Test A))) where
   abbrev pub by_transform : Transform → Predicate A → Res (Projected (Predicate A))
-  by_transform Identity leaf = ok (some (in_order compare leaf))
+  by_transform Identity leaf = Ok (some (in_order compare leaf))
   by_transform (Truncate width) leaf = through step leaf
   by_transform Year leaf = through step leaf
   by_transform Month leaf = through step leaf
   by_transform Day leaf = through step leaf
   by_transform Hour leaf = through step leaf
-  by_transform Void leaf = ok none
-  by_transform Unknown leaf = err FeatureUnsupported
+  by_transform Void leaf = Ok none
+  by_transform Unknown leaf = Err FeatureUnsupported
 
 -- ---- numbers and times
 abbrev pub lifted_by : Bool → Projected (Test ℤ) → Projected (Test ℤ)
@@ -60,11 +60,11 @@ module _ (column : PrimitiveType) (transform : Transform) where
   abbrev pub number_step : Question → Test ℤ → Res (Projected (Test ℤ))
   number_step Inclusive t = do
     q ← inclusive_number column number_under t
-    ok (lifted_by (lifted column transform) q)
+    Ok (lifted_by (lifted column transform) q)
   number_step Strict t = strict_number column number_under t
   number_step Older t = do
     q ← strict_number column number_under t
-    ok (mapped (older_if (lifted column transform)) q)
+    Ok (mapped (older_if (lifted column transform)) q)
 
 unfoldable pub project_numbers : Question → PrimitiveType → Transform → Predicate ℤ → Res (Projected (Predicate ℤ))
 project_numbers question column transform leaf = by_transform compare_numbers (number_step column transform question) transform leaf

@@ -2,7 +2,7 @@
 
 // Inclusive: which partition values may have a row that meets the leaf. Strict: which have such rows only. Older: which have such rows only, in files whose
 // writers may have filed a row with a negative partition value under the next one.
-#[derive(Clone, Copy)]
+#[derive(Clone, Copy, PartialEq, Eq)]
 pub enum Question {
     Inclusive,
     Strict,

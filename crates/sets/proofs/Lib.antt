@@ -1,2 +1,4 @@
 -- Lemmas that several proofs of this crate share.
-pub mod SetTurns
+pub mod Lifts
+pub mod Turns
+pub mod Sizes

@@ -1,3 +1,3 @@
--- What the enums and the arrays of the code of `sets` mean, as the definitions have it.
+-- What the code of `sets` collects, and what its arrays mean.
 pub mod Sets
 pub mod StringSets

@@ -1,6 +1,5 @@
 -- What a match over the column types returns in each arm, by what the arm is for. Assumes nothing.
 use Prim.Native.Nat.{ℕ, ◌+◌, ◌*◌, ◌≤◌}
-use mathlib.Core.Bool.{Bool}
 use mathlib.Core.List.{List}
 use mathlib.Core.Path.{◌≡◌, ◌∙◌}
 use lib.Dec.{lit≤}
@@ -9,17 +8,14 @@ use mir.Syntax.{w32, w64}
 use mir.Val.{SFits, to_z, of_z}
 use Rattle.values.specs.laws.SignedLaws.{back}
 use Rattle.values.specs.laws.RangeLaws.{widen, four, eight, range_fits}
-use Rattle.values.specs.Types.{layout, number, bytes, content_size, fits}
+use Rattle.values.specs.Types.{layout, number, bytes, content_size}
 use Rattle.values.specs.Words.{word, signed}
 use Rattle.values.specs.declared.datatypes.PrimitiveType.{PrimitiveType}
-use Rattle.sheet.specs.code.ReadAnswers.{number_at, InLayout}
+use Rattle.sheet.specs.code.Placed.{number_at, InLayout}
 use Rattle.sheet.specs.laws.PartLaws.{in_record}
 use Rattle.sheet.specs.Records.{header_size, record_size}
 
 module _ {ty kind : PrimitiveType} (is : ty ≡ kind) where
-  pub fits_arm : {r : Bool} (k : ℕ) → r ≡ fits (layout kind) k → r ≡ fits (layout ty) k
-  fits_arm k e = rw is e
-
   module _ (s : List ℕ) (k : ℕ) where
     module _ {z : ℤ} where
       numbered : (n : ℕ) → header_size + n ≤ record_size → layout kind ≡ number n → z ≡ signed n (word (record_size * k + header_size) n s)
@@ -45,8 +41,5 @@ module _ {ty kind : PrimitiveType} (is : ty ≡ kind) where
 
     pub no_range : layout kind ≡ bytes content_size → InLayout (layout ty) (pos 0)
     no_range e = rw (is, e) tt
-
-pub cast_up : {z : ℤ} → SFits w32 z → SFits w64 (to_z w32 (of_z w32 z))
-cast_up f = rw (back f) (widen f)
 
 pub ruleset numbering = (four_bytes, eight_bytes, no_number, four_ranged, eight_ranged, no_range)

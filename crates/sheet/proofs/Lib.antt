@@ -1,6 +1,5 @@
 -- Lemmas that several proofs of this crate share.
 pub mod ColumnArms
-pub mod Heads
 pub mod SheetReads
 pub mod ValueReads
 pub mod Walks

@@ -1,75 +1,63 @@
 -- What each return of the code that reads a sheet comes to, by the steps before it. Assumes nothing.
-use Prim.Native.Nat.{ℕ, suc, ◌+◌, ◌*◌, ◌%◌, ◌≤◌, ◌<◌}
-use native.Mathlib.Nat.{zero-add}
-use native.Mathlib.Omega.{arith}
-use mathlib.Core.Bool.{true, false}
-use mathlib.Core.List.{List, map}
-use mathlib.Core.Path.{◌≡◌, refl, sym, ap, subst, ◌∙◌}
-use lib.ListN.{length, get_or, take, length-map}
-use lib.Seq.{get_or-take}
-use borrow.Author.Tests.{lt-ltb, le-ltb, le-leb, lt-leb, eq-eqb, ne_eqb}
+use Rattle.std.specs.Prelude.{◌≡◌, ℕ, suc, ◌+◌, ◌*◌, ◌%◌, ◌≤◌, ◌<◌, true, false, List, [], map, length, refl, Ok, Err}
+use Rattle.std.proofs.Common.{arith, sym, ap, ap₂, ◌∙◌, lt-ltb, le-leb, le-ltb, eq-eqb, ne_eqb}
+use Rattle.std.proofs.lemmas.Bool.{lt-leb}
+use Rattle.std.proofs.lemmas.List.{length-map}
+use lib.Seq.{take_all}
 use Rattle.values.specs.laws.OutcomeLaws.{ok_inj, ok_not_err}
-use Rattle.values.specs.Outcomes.{Res, ok, err, ◌>>=◌}
+use Rattle.values.specs.Outcomes.{Res, ◌>>=◌}
 use Rattle.values.specs.Types.{layout}
 use Rattle.values.specs.declared.error.ErrorKind.{ErrorKind}
 use Rattle.values.specs.declared.error.ErrorKind.TheVariants.{Malformed}
-use Rattle.expr.specs.Operators.{by_arity, holds_limit}
-use Rattle.expr.specs.code.OperatorAnswers.{takes}
-use Rattle.sheet.specs.code.ReadAnswers.{content_at, malformed_chain, walked_as, Stored, head_in, head_result, sheet_result, LiteralsRead, records_from}
-use Rattle.sheet.specs.Records.{record_size, record_count}
+use Rattle.expr.specs.Operators.{by_arity}
+use Rattle.expr.specs.code.OperatorAnswers.{takes, leaf_of}
+use Rattle.expr.specs.laws.PredicateLaws.{leaf_of_lem}
+use Rattle.sheet.specs.code.Placed.{content_at, Placed, contents_at}
+use Rattle.sheet.specs.code.ReadAnswers.{walked_as, fields_read, head_in, records_from}
+use Rattle.sheet.specs.Records.{record_size}
 use Rattle.sheet.specs.laws.SheetStepLaws.{with_chain, sheet_steps, Made, predicate_made, predicate_refused}
-use Rattle.sheet.specs.Sheets.{Sheet, sheet}
-use Rattle.sheet.specs.laws.RefusalLaws.{OnlyMalformed}
-use Rattle.sheet.specs.laws.WalkLaws.{walk_malformed, walk_few, walk_literals}
+use Rattle.sheet.specs.Sheets as sheets
+use Rattle.sheet.specs.Sheets.{sheet}
+use Rattle.sheet.specs.laws.WalkLaws.{walk_literals}
+use Rattle.sheet.specs.declared.head.Fields.{Fields}
 use Rattle.sheet.specs.declared.head.Head.{Head}
-use Rattle.sheet.specs.declared.head.HeadResult.{HeadResult}
-use Rattle.sheet.specs.declared.sheet.SheetResult.{SheetResult}
-use Rattle.sheet.specs.declared.sheet.SheetResult.TheVariants as sheet-result
 
--- ---- what the code's answers tell of the definitions
+-- ---- the fields of a head
+pub fields_refused : (x : Res sheets.Head) {e : ErrorKind} → fields_read x ≡ Err e → x ≡ Err e
+fields_refused (Ok h) d = ok_not_err (sym d)
+fields_refused (Err k) {e} d = let same : k ≡ e = cc in rw same
 
-pub head_is : (r : HeadResult) (x y : Res Head) → r ≡ head_result x → r ≡ head_result y → x ≡ y
-head_is r (ok a) (ok b) e d = cc
-head_is r (ok a) (err b) e d = cc
-head_is r (err a) (ok b) e d = cc
-head_is r (err a) (err b) e d = cc
+pub fields_found : (x : Res sheets.Head) {f : Fields} → fields_read x ≡ Ok f → x ≡ Ok (record { column = f.column; transform = f.transform })
+fields_found (Ok h) d = ap (λ (f : Fields). Ok (record { column = f.column; transform = f.transform })) (ok_inj d)
+fields_found (Err k) d = ok_not_err d
 
--- no walk finds so many literals as stand for a malformed chain
-found_none : (count : ℕ) (x : Res (List ℕ)) → OnlyMalformed x → ((ns : List ℕ) → x ≡ ok ns → length ns ≤ holds_limit) → count ≡ walked_as 0 x
-    → count ≡ malformed_chain → x ≡ err Malformed
-found_none count (ok ns) h few e d = absurd (omega (arith, few ns refl))
-found_none count (err k) h few e d = ap err (h.only k refl)
+-- ---- what a walk counted
+pub walk_refused : (x : Res (List ℕ)) {e : ErrorKind} → walked_as 0 x ≡ Err e → x ≡ Err e
+walk_refused (Ok ns) d = ok_not_err (sym d)
+walk_refused (Err k) {e} d = let same : k ≡ e = cc in rw same
 
-found_some : (count : ℕ) (x : Res (List ℕ)) → count ≡ walked_as 0 x → (count ≡ malformed_chain → ⊥) → (ns : List ℕ) × (x ≡ ok ns) × (count ≡ length ns)
-found_some count (ok ns) e d = (ns, refl, omega arith)
-found_some count (err k) e d = absurd (d e)
+pub walk_found : (x : Res (List ℕ)) {n : ℕ} → walked_as 0 x ≡ Ok n → (ns : List ℕ) × (x ≡ Ok ns) × (length ns ≡ n)
+walk_found (Ok ns) d = (ns, refl, let e = ok_inj d in omega (arith, e))
+walk_found (Err k) d = ok_not_err d
 
 -- ---- the returns
-module _ (most : ℕ) (s records : List ℕ) where
-  -- a sheet that is answered so, with the records left so
-  abbrev pub Answered : SheetResult → Type 0
-  Answered r = (r ≡ sheet_result (sheet most s)) × ((x : Sheet) → sheet most s ≡ ok x → LiteralsRead s records x)
-
-  refused : {e : ErrorKind} → sheet most s ≡ err e → Answered (sheet-result.Err e)
-  refused d = (rw d, λ x q. ok_not_err (sym d ∙ q))
-
-  pub no_record : length s ≡ 0 → Answered (sheet-result.Err Malformed)
-  no_record h = refused (rw (sheet_steps s most, le-ltb 0 (length s) (omega arith)))
+module _ (most : ℕ) (s : List ℕ) where
+  pub no_record : length s ≡ 0 → sheet most s ≡ Err Malformed
+  no_record h = rw (sheet_steps s most, le-ltb 0 (length s) (omega arith))
 
   module _ (some : length s ≡ 0 → ⊥) where
-    pub part_record_lem : (length s % record_size ≡ 0 → ⊥) → Answered (sheet-result.Err Malformed)
-    part_record_lem h = refused (rw (sheet_steps s most, lt-ltb 0 (length s) (omega arith), ne_eqb (length s % record_size) 0 h))
+    pub part_record : (length s % record_size ≡ 0 → ⊥) → sheet most s ≡ Err Malformed
+    part_record h = rw (sheet_steps s most, lt-ltb 0 (length s) (omega arith), ne_eqb (length s % record_size) 0 h)
 
     module _ (whole : length s % record_size ≡ 0) where
-      pub too_long : record_size * (most + 1) < length s → Answered (sheet-result.Err Malformed)
+      pub too_long : record_size * (most + 1) < length s → sheet most s ≡ Err Malformed
       too_long h =
-          refused
-          (rw (
+          rw (
             sheet_steps s most,
             lt-ltb 0 (length s) (omega arith),
             eq-eqb (length s % record_size) 0 whole,
             lt-leb (length s) (record_size * suc most) (omega arith),
-          ))
+          )
 
       module _ (short : length s ≤ record_size * (most + 1)) where
         steps : sheet most s ≡ (head_in s >>= with_chain s)
@@ -81,46 +69,31 @@ module _ (most : ℕ) (s records : List ℕ) where
               le-leb (length s) (record_size * suc most) (omega arith),
             )
 
-        pub no_head : {e : ErrorKind} → head_in s ≡ err e → Answered (sheet-result.Err e)
-        no_head d = refused (rw (steps, d))
+        pub no_head : {e : ErrorKind} → head_in s ≡ Err e → sheet most s ≡ Err e
+        no_head d = rw (steps, d)
 
-        module _ (h : Head) (is_head : head_in s ≡ ok h) (count : ℕ) (walks : count ≡ walked_as 0 (records_from (layout h.column) s 0)) where
-          pub no_chain : most ≤ holds_limit → count ≡ malformed_chain → Answered (sheet-result.Err Malformed)
-          no_chain limit d =
-              let l = layout h.column in
-              let first : 0 < record_count s = omega arith in
-              let e = found_none count _ (walk_malformed l s 0) (λ ns f. omega (arith, walk_few l s 0 first f)) walks d in
-              refused (rw (steps, is_head, e))
+        module _ (h : Head) (is_head : head_in s ≡ Ok h) where
+          pub no_chain : {e : ErrorKind} → records_from (layout h.column) s 0 ≡ Err e → sheet most s ≡ Err e
+          no_chain d = rw (steps, is_head, d)
 
-          module _ (sound : count ≡ malformed_chain → ⊥) where
-            pub wrong_count : takes (by_arity h.operator) count ≡ false → Answered (sheet-result.Err Malformed)
-            wrong_count t =
-                let f = found_some count (records_from (layout h.column) s 0) walks sound in
-                let ls = map (content_at s) f.0 in
-                let n : count ≡ length ls = f.2 ∙ sym (length-map f.0 (content_at s)) in
-                refused (rw (steps, is_head, f.1, predicate_refused h.operator ls (rw n at t)))
+          module _ {ns : List ℕ} (is_chain : records_from (layout h.column) s 0 ≡ Ok ns) where
+            pub wrong_count : takes (by_arity h.operator) (length ns) ≡ false → sheet most s ≡ Err Malformed
+            wrong_count t = rw (steps, is_head, is_chain, predicate_refused h.operator (map (content_at s) ns) (rw length-map t))
 
-            module _ (before : List ℕ) (stored : Stored 0 (records_from (layout h.column) s 0) before records) where
-              read_so : (ns : List ℕ) → records_from (layout h.column) s 0 ≡ ok ns → count ≡ length ns → Made h.operator (map (content_at s) ns)
-                  → Answered (sheet-result.Ok (record { head = h; count = count }))
-              read_so ns e n made =
-                  let x : Sheet = record { head = record { column = h.column; transform = h.transform }; leaf = made.leaf } in
-                  let is : sheet most s ≡ ok x = rw (steps, is_head, e, made.made) in
-                  let front : take (length ns) records ≡ ns = rw (zero-add) at (stored.stored ns e) in (
-                    rw (is, made.operator, made.literals, length-map, n),
-                    λ y q. subst (LiteralsRead s records) (ok_inj (sym is ∙ q))
-                        (record {
-                          literals = rw (made.literals, length-map, front);
-                          each = λ i k.
-                              let j : i < length ns = simp (made.literals, length-map) at k in
-                              let same : get_or ns i 0 ≡ get_or records i 0 = ap (λ (l : List ℕ). get_or l i 0) (sym front) ∙ get_or-take (length ns) records i 0 j in
-                              rw (← same) (walk_literals h.column s 0 e i j);
-                        }),
-                  )
+            by_made : Made h.operator (map (content_at s) ns) → sheet most s
+                ≡ Ok (record { head = record { column = h.column; transform = h.transform }; leaf = leaf_of [] (by_arity h.operator) (map (content_at s) ns) })
+            by_made made =
+                let leaf : leaf_of [] (by_arity h.operator) (map (content_at s) ns) ≡ made.leaf =
+                ap₂ (λ o ls. leaf_of [] (by_arity o) ls) (sym made.operator) (sym made.literals) ∙ leaf_of_lem [] made.leaf in
+                rw (steps, is_head, is_chain, made.made, leaf)
 
-              pub sheet_read_lem : takes (by_arity h.operator) count ≡ true → Answered (sheet-result.Ok (record { head = h; count = count }))
-              sheet_read_lem t =
-                  let f = found_some count (records_from (layout h.column) s 0) walks sound in
-                  let ls = map (content_at s) f.0 in
-                  let n : count ≡ length ls = f.2 ∙ sym (length-map f.0 (content_at s)) in
-                  read_so f.0 f.1 f.2 (predicate_made h.operator ls (rw n at t))
+            pub sheet_made : takes (by_arity h.operator) (length ns) ≡ true → sheet most s
+                ≡ Ok (record { head = record { column = h.column; transform = h.transform }; leaf = leaf_of [] (by_arity h.operator) (map (content_at s) ns) })
+            sheet_made t = by_made (predicate_made h.operator (map (content_at s) ns) (rw length-map t))
+
+-- ---- the records that were filled
+pub front_placed : (h : Head) (s : List ℕ) {ns : List ℕ} → records_from (layout h.column) s 0 ≡ Ok ns → Placed (layout h.column) s ns (length ns)
+front_placed h s e = record { room = omega arith; each = walk_literals h.column s 0 e }
+
+pub front_contents : (s ns : List ℕ) → contents_at s ns (length ns) ≡ map (content_at s) ns
+front_contents s ns = rw (take_all (length ns) ns (omega arith))

@@ -1,6 +1,6 @@
 -- Records: how literals and values stand in bytes. A value is here still the bytes of its content. Assumes nothing.
-use Rattle.std.specs.Prelude.{ℕ, ◌+◌, ◌-◌, ◌*◌, ◌/◌, cond, List, ◌==◌, length}
-use Rattle.values.specs.Outcomes.{Res, ok, need, ◌>>=◌, ◌>>◌, Row, missing, present}
+use Rattle.std.specs.Prelude.{ℕ, ◌+◌, ◌-◌, ◌*◌, ◌/◌, cond, List, ◌==◌, length, Ok}
+use Rattle.values.specs.Outcomes.{Res, need, ◌>>=◌, ◌>>◌, Row, missing, present}
 use Rattle.values.specs.Types.{Layout, content_size, fits}
 use Rattle.values.specs.Words.{field, word, zero_at}
 use Rattle.values.specs.declared.error.ErrorKind.TheVariants.{Malformed}
@@ -31,7 +31,7 @@ content layout r = do
   need (length r == record_size) Malformed
   need (fits layout (length_in r)) Malformed
   need (zero_at (header_size + length_in r) (content_size - length_in r) r) Malformed
-  ok (field header_size (length_in r) r)
+  Ok (field header_size (length_in r) r)
 
 -- 01: "length 65535 and zero content mark it missing"
 abbrev pub missing_mark : ℕ
@@ -41,12 +41,12 @@ abbrev pub missing_value : List ℕ → Res (Row (List ℕ))
 missing_value r = do
   need (length r == record_size) Malformed
   need (zero_at header_size content_size r) Malformed
-  ok missing
+  Ok missing
 
 abbrev pub present_value : Layout → List ℕ → Res (Row (List ℕ))
 present_value layout r = do
   bytes ← content layout r
-  ok (present bytes)
+  Ok (present bytes)
 
 -- 01: "A value to be transformed or tested is one literal record with next 0"
 unfoldable pub value : Layout → List ℕ → Res (Row (List ℕ))

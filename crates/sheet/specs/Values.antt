@@ -1,6 +1,6 @@
 -- The values that contents stand for: numbers in two's complement, and byte strings, which are UTF-8 where the column is a String. Assumes nothing.
-use Rattle.std.specs.Prelude.{ℕ, not, ◌||◌, List, map, ℤ}
-use Rattle.values.specs.Outcomes.{Res, ok, need, each, ◌>>=◌, ◌>>◌, Row, missing, present}
+use Rattle.std.specs.Prelude.{ℕ, not, ◌||◌, List, map, ℤ, Ok}
+use Rattle.values.specs.Outcomes.{Res, need, each, ◌>>=◌, ◌>>◌, Row, missing, present}
 use Rattle.values.specs.Types.{Layout, number, bytes, same_type}
 use Rattle.values.specs.Utf8.{utf8}
 use Rattle.values.specs.Words.{le_number, signed}
@@ -14,29 +14,29 @@ abbrev pub number_of : ℕ → List ℕ → ℤ
 number_of n bs = signed n (le_number bs)
 
 abbrev pub read_number : ℕ → List ℕ → Res ℤ
-read_number n bs = ok (number_of n bs)
+read_number n bs = Ok (number_of n bs)
 
 -- 01: "4: a String literal or value is not UTF-8"
 abbrev pub read_bytes : PrimitiveType → List ℕ → Res (List ℕ)
 read_bytes column bs = do
   need (not (same_type column String) || utf8 bs) NotUtf8
-  ok bs
+  Ok bs
 
 -- a leaf's literals, and a row's value, read in their turn
 abbrev pub each_literal : {A B : Type 0} → (A → Res B) → Predicate A → Res (Predicate B)
-each_literal read (unary o) = ok (unary o)
+each_literal read (unary o) = Ok (unary o)
 each_literal read (test (binary o l)) = do
   x ← read l
-  ok (test (binary o x))
+  Ok (test (binary o x))
 each_literal read (test (set o ls)) = do
   xs ← each read ls
-  ok (test (set o xs))
+  Ok (test (set o xs))
 
 abbrev pub read_row : {A B : Type 0} → (A → Res B) → Row A → Res (Row B)
-read_row read missing = ok missing
+read_row read missing = Ok missing
 read_row read (present v) = do
   x ← read v
-  ok (present x)
+  Ok (present x)
 
 -- the one or the other, by how a type's values stand in bytes
 abbrev pub by_layout : {X : Type 0} → Layout → (ℕ → X) → X → X

@@ -6,4 +6,3 @@ pub mod PartLaws
 pub mod WalkLaws
 pub mod SheetStepLaws
 pub mod ReadLaws
-pub mod ResultLaws

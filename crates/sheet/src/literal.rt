@@ -1,9 +1,10 @@
 // Literals by the numbers of their records: whether one is there, its content, and the number that it is.
-ghost use Rattle.std.specs.Prelude.{◌≡◌, ◌+◌, ◌*◌, ◌≤◌, ◌<◌, length, get_or};
+ghost use Rattle.std.specs.Prelude.{◌≡◌, ◌+◌, ◌*◌, ◌≤◌, length};
 ghost use Rattle.values.specs.Types.{layout, content_size};
 ghost use Rattle.values.specs.Words.{field};
 ghost use Rattle.sheet.specs.Records.{header_size, record_size, length_in, content, record_at};
-ghost use Rattle.sheet.specs.code.ReadAnswers.{is_ok, content_at, number_at, InLayout};
+ghost use Rattle.sheet.specs.code.Placed.{content_at, number_at, InLayout};
+ghost use Rattle.sheet.specs.code.ReadAnswers.{is_ok};
 
 use crate::records::{CONTENT_SIZE, HEADER_SIZE, RECORD_SIZE, length_fits, zeros};
 use values::datatypes::PrimitiveType;
@@ -25,14 +26,6 @@ pub fn is_literal(s: &[u8], k: usize, column: PrimitiveType) -> bool
         return zeros(&*s, at + HEADER_SIZE + 8, CONTENT_SIZE - 8);
     }
     zeros(&*s, at + HEADER_SIZE + n, CONTENT_SIZE - n)
-}
-
-// The number of the record of literal i.
-pub fn record_of(records: &[u16], i: usize) -> usize
-    requires { i < length records.now }
-    ensures { result ≡ get_or records.now i 0 }
-{
-    records[i] as usize
 }
 
 // The content of record k, a part of the sheet.

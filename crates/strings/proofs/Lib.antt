@@ -1,2 +1,2 @@
--- Lemmas that several proofs of this crate share.
-pub mod PrefixArms
+-- Lemmas that the functions name.
+pub mod Cut

@@ -4,144 +4,118 @@ ghost use Rattle.values.specs.declared.transform.Transform.TheVariants.{Truncate
 ghost use Rattle.expr.specs.Operators.{by_arity};
 ghost use Rattle.expr.specs.code.OperatorAnswers.{takes_one};
 ghost use Rattle.projection.specs.Projection.{length_of};
-ghost use Rattle.strings.specs.code.Prefixes.{bytes_leaf, bytes_projected, NoLonger, OneLiteral, truncated_leaf, starts_leaf, not_starts_leaf};
+ghost use Rattle.strings.specs.code.Prefixes.{bytes_leaf, bytes_projected, NoLonger, OneLiteral, truncated_leaf, within_leaf, cut_leaf};
 ghost use Rattle.projection.specs.declared.question.Question.TheVariants.{Inclusive, Strict};
 
 use expr::operator::PredicateOperator;
 use partition::bytes::truncate_bytes;
 use projection::question::Question;
+use std::cmp::Ordering;
 use values::datatypes::PrimitiveType;
 use values::utf8::count_code_points;
-
-// What such a leaf comes to: an operator with so many of the literal's first bytes, or none. Truncate refuses no byte string.
-#[derive(Clone, Copy)]
-pub enum BytesProjection {
-    None,
-    Prefix(PredicateOperator, usize),
-}
 
 // A String's length is in code points, a Binary's in bytes.
 fn literal_len(column: PrimitiveType, l: &[u8]) -> usize
     ensures { result ≡ length_of column l.now }
 {
-    if let PrimitiveType::String = column {
+    if column == PrimitiveType::String {
         count_code_points(l)
     } else {
         l.len()
     }
 }
 
+// What such a leaf comes to is an operator with the literal or a beginning of it, or none. Truncate refuses no byte string.
+
 // An operator with T of the literal.
+#[tactic(auto, using(crate::proofs::Cut::cut_is, crate::proofs::Cut::no_longer))]
 fn truncate_array(
     column: PrimitiveType,
     width: u32,
     operator: PredicateOperator,
     l: &[u8],
-) -> BytesProjection
+) -> Option<(PredicateOperator, &[u8])>
     requires { takes_one (by_arity operator) ≡ true }
-    ensures says { bytes_projected l.now result ≡ truncated_leaf column width (by_arity operator) l.now }
+    ensures says { bytes_projected result ≡ truncated_leaf column width (by_arity operator) l.now }
     ensures short { NoLonger (length l.now) result }
     ensures one { OneLiteral result }
 {
-    BytesProjection::Prefix(operator, truncate_bytes(column, width, l).len())
+    Some((operator, truncate_bytes(column, width, l)))
 }
 
-// StartsWith: a literal as long as the width has `whole`, a shorter one the leaf's own operator; a longer one has T with it, or none.
-fn project_starts_with(
-    question: Question,
+// A literal as long as the width has `whole`, a shorter one `operator`, and a longer one none.
+fn within_width(
     column: PrimitiveType,
     width: u32,
+    operator: PredicateOperator,
     whole: PredicateOperator,
     l: &[u8],
-) -> BytesProjection
-    requires { takes_one (by_arity whole) ≡ true }
-    ensures says { bytes_projected l.now result ≡ starts_leaf question column width (by_arity whole) l.now }
+) -> Option<(PredicateOperator, &[u8])>
+    requires shorter { takes_one (by_arity operator) ≡ true }
+    requires equal { takes_one (by_arity whole) ≡ true }
+    ensures says { bytes_projected result ≡ within_leaf column width (by_arity operator) (by_arity whole) l.now }
     ensures short { NoLonger (length l.now) result }
     ensures one { OneLiteral result }
 {
-    let n = literal_len(column, l);
-    if n == width as usize {
-        return BytesProjection::Prefix(whole, l.len());
+    match literal_len(column, l).cmp(&(width as usize)) {
+        Ordering::Less => Some((operator, l)),
+        Ordering::Equal => Some((whole, l)),
+        Ordering::Greater => None,
     }
-    if n < width as usize {
-        return BytesProjection::Prefix(PredicateOperator::StartsWith, l.len());
-    }
-    if let Question::Inclusive = question {
-        return truncate_array(column, width, PredicateOperator::StartsWith, l);
-    }
-    BytesProjection::None
 }
 
-// NotStartsWith alike; a longer literal has none where that of StartsWith has T, and T where it has none.
-fn project_not_starts_with(
-    question: Question,
+// The same, but a longer literal has T with `operator`.
+fn cut_to_width(
     column: PrimitiveType,
     width: u32,
+    operator: PredicateOperator,
     whole: PredicateOperator,
     l: &[u8],
-) -> BytesProjection
-    requires { takes_one (by_arity whole) ≡ true }
-    ensures says { bytes_projected l.now result ≡ not_starts_leaf question column width (by_arity whole) l.now }
+) -> Option<(PredicateOperator, &[u8])>
+    requires shorter { takes_one (by_arity operator) ≡ true }
+    requires equal { takes_one (by_arity whole) ≡ true }
+    ensures says { bytes_projected result ≡ cut_leaf column width (by_arity operator) (by_arity whole) l.now }
     ensures short { NoLonger (length l.now) result }
     ensures one { OneLiteral result }
 {
-    let n = literal_len(column, l);
-    if n == width as usize {
-        return BytesProjection::Prefix(whole, l.len());
-    }
-    if n < width as usize {
-        return BytesProjection::Prefix(PredicateOperator::NotStartsWith, l.len());
-    }
-    if let Question::Inclusive = question {
-        return BytesProjection::None;
-    }
-    truncate_array(column, width, PredicateOperator::NotStartsWith, l)
+    within_width(column, width, operator, whole, l).or_else(|| truncate_array(
+        column, width, operator, l,
+    ))
 }
 
-// The inclusive projection. A Binary as long as the width keeps StartsWith and NotStartsWith, where a String has Eq and NotEq.
+// The inclusive projection. A Binary keeps StartsWith with T of the literal, and NotStartsWith up to the width; `_` has a longer one too.
 fn project_array(
     column: PrimitiveType,
     width: u32,
     operator: PredicateOperator,
     l: &[u8],
-) -> BytesProjection
-    ensures says { bytes_projected l.now result ≡ bytes_leaf Inclusive column (Truncate width) (by_arity operator) l.now }
+) -> Option<(PredicateOperator, &[u8])>
+    ensures says { bytes_projected result ≡ bytes_leaf Inclusive column (Truncate width) (by_arity operator) l.now }
     ensures short { NoLonger (length l.now) result }
     ensures one { OneLiteral result }
 {
+    let is_string = column == PrimitiveType::String;
     match operator {
         PredicateOperator::LessThan => {
             truncate_array(column, width, PredicateOperator::LessThanOrEq, l)
         }
-        PredicateOperator::LessThanOrEq => truncate_array(column, width, operator, l),
         PredicateOperator::GreaterThan => {
             truncate_array(column, width, PredicateOperator::GreaterThanOrEq, l)
         }
-        PredicateOperator::GreaterThanOrEq => truncate_array(column, width, operator, l),
-        PredicateOperator::Eq => truncate_array(column, width, operator, l),
-        PredicateOperator::StartsWith => {
-            if let PrimitiveType::String = column {
-                project_starts_with(Question::Inclusive, column, width, PredicateOperator::Eq, l)
-            } else {
-                let whole = PredicateOperator::StartsWith;
-                project_starts_with(Question::Inclusive, column, width, whole, l)
-            }
+        PredicateOperator::LessThanOrEq
+        | PredicateOperator::GreaterThanOrEq
+        | PredicateOperator::Eq => { truncate_array(column, width, operator, l) }
+        PredicateOperator::StartsWith if is_string => {
+            cut_to_width(column, width, operator, PredicateOperator::Eq, l)
         }
-        PredicateOperator::NotStartsWith => {
-            if let PrimitiveType::String = column {
-                project_not_starts_with(
-                    Question::Inclusive,
-                    column,
-                    width,
-                    PredicateOperator::NotEq,
-                    l,
-                )
-            } else {
-                let whole = PredicateOperator::NotStartsWith;
-                project_not_starts_with(Question::Inclusive, column, width, whole, l)
-            }
+        PredicateOperator::StartsWith => truncate_array(column, width, operator, l),
+        PredicateOperator::NotStartsWith if is_string => {
+            within_width(column, width, operator, PredicateOperator::NotEq, l)
         }
-        _ => BytesProjection::None,
+        PredicateOperator::NotStartsWith if literal_len(column, l) <= width as usize => {
+            truncate_array(column, width, operator, l)
+        }
+        _ => None,
     }
 }
 
@@ -151,45 +125,47 @@ fn truncate_array_strict(
     width: u32,
     operator: PredicateOperator,
     l: &[u8],
-) -> BytesProjection
-    ensures says { bytes_projected l.now result ≡ bytes_leaf Strict column (Truncate width) (by_arity operator) l.now }
+) -> Option<(PredicateOperator, &[u8])>
+    ensures says { bytes_projected result ≡ bytes_leaf Strict column (Truncate width) (by_arity operator) l.now }
     ensures short { NoLonger (length l.now) result }
     ensures one { OneLiteral result }
 {
     match operator {
-        PredicateOperator::LessThan => truncate_array(column, width, operator, l),
         PredicateOperator::LessThanOrEq => {
             truncate_array(column, width, PredicateOperator::LessThan, l)
         }
-        PredicateOperator::GreaterThan => truncate_array(column, width, operator, l),
         PredicateOperator::GreaterThanOrEq => {
             truncate_array(column, width, PredicateOperator::GreaterThan, l)
         }
-        PredicateOperator::NotEq => truncate_array(column, width, operator, l),
+        PredicateOperator::LessThan | PredicateOperator::GreaterThan | PredicateOperator::NotEq => {
+            truncate_array(column, width, operator, l)
+        }
         PredicateOperator::StartsWith => {
-            project_starts_with(Question::Strict, column, width, PredicateOperator::Eq, l)
+            within_width(column, width, operator, PredicateOperator::Eq, l)
         }
         PredicateOperator::NotStartsWith => {
-            project_not_starts_with(Question::Strict, column, width, PredicateOperator::NotEq, l)
+            cut_to_width(column, width, operator, PredicateOperator::NotEq, l)
         }
-        _ => BytesProjection::None,
+        _ => None,
     }
 }
 
-// The projection of a leaf with one String or Binary. No transform of theirs is lifted: for older files it is the strict one.
+// The projection of a leaf with one String or Binary: an operator with the literal or a beginning of it, or none. No transform of theirs is lifted: for
+// older files it is the strict one.
 pub fn project_bytes(
     question: Question,
     column: PrimitiveType,
     width: u32,
     operator: PredicateOperator,
     l: &[u8],
-) -> BytesProjection
-    ensures says { bytes_projected l.now result ≡ bytes_leaf question column (Truncate width) (by_arity operator) l.now }
+) -> Option<(PredicateOperator, &[u8])>
+    ensures says { bytes_projected result ≡ bytes_leaf question column (Truncate width) (by_arity operator) l.now }
     ensures short { NoLonger (length l.now) result }
     ensures one { OneLiteral result }
 {
-    if let Question::Inclusive = question {
-        return project_array(column, width, operator, l);
+    if question == Question::Inclusive {
+        project_array(column, width, operator, l)
+    } else {
+        truncate_array_strict(column, width, operator, l)
     }
-    truncate_array_strict(column, width, operator, l)
 }

@@ -1,101 +1,68 @@
--- What each return of the code that reads a summary comes to. Assumes nothing.
-use Prim.Native.Nat.{ℕ, ◌≤◌, ◌<◌}
-use mathlib.Core.Bool.{Bool, true, false, not, ◌&&◌}
-use mathlib.Core.List.{List}
-use mathlib.Core.Path.{◌≡◌, refl, sym, ap}
-use lib.Dec.{ltb, leb}
-use lib.ListN.{length}
-use borrow.Author.Tests.{eq-eqb, ne_eqb, le-leb, lt-leb, lt-ltb, le-ltb, leb-true, leb-false}
+-- What a summary is by its ends, where the rest of it was read, and that the ends have lengths of the type. Assumes nothing.
+use Rattle.std.specs.Prelude.{ℕ, ◌≤◌, List, ◌≡◌, length, slice_index, Ok, Err, Option, Some, option_copied}
+use Rattle.std.proofs.Common.{sym, ap, ◌∙◌, le-leb, eq-eqb}
+use denote.Ref.{Bor}
 use Rattle.values.specs.Numbered.{find}
-use Rattle.values.specs.Outcomes.{Res, ok, err, ◌>>=◌, Row, missing, present}
+use Rattle.values.specs.Outcomes.{Res, ◌>>=◌, Row, present}
 use Rattle.values.specs.Types.{types, layout}
-use Rattle.values.specs.Words.{word}
+use Rattle.values.specs.code.Lent.{lent_value}
 use Rattle.values.specs.declared.datatypes.PrimitiveType.{PrimitiveType}
 use Rattle.values.specs.declared.error.ErrorKind.{ErrorKind}
-use Rattle.values.specs.declared.error.ErrorKind.TheVariants.{Malformed}
+use Rattle.values.specs.laws.WordLaws.{word_one}
 use Rattle.sheet.specs.Records.{record_at, value}
-use Rattle.sheet.specs.laws.RefusalLaws.{OnlyMalformed, value_only}
+use Rattle.sheet.specs.laws.RecordLaws.{value_read}
 use Rattle.summary.specs.Summaries as summaries
-use Rattle.summary.specs.Summaries.{type_at, flag_at, summary_size, says_missing, says_none, highest_flag, ends_of, summary}
-use Rattle.summary.specs.code.SummaryAnswers.{is_end, summary_result}
-use Rattle.summary.specs.declared.summary.SummaryResult.TheVariants as summary-result
+use Rattle.summary.specs.Summaries.{◌to◌, type_at, flag_at, summary_size, says_missing, says_none, highest_flag, ends_of, summary}
+use Rattle.summary.specs.code.Fitting.{EndsFit}
+use Rattle.summary.specs.code.SummaryAnswers.{ends_in, ends_told}
+use Rattle.summary.specs.laws.SummaryBytesLaws.{ends_found}
+use Rattle.summary.specs.declared.summary.Ends.{Ends}
 
--- the code's flag is that some are present
-some_present_lem : (flag : ℕ) → ltb flag 2 ≡ not (says_none flag)
-some_present_lem flag = go (leb 2 flag) refl
-  where
-    go : (b : Bool) → leb 2 flag ≡ b → ltb flag 2 ≡ not b
-    go true e = le-ltb flag 2 (leb-true 2 flag e)
-    go false e = lt-ltb flag 2 (leb-false 2 flag e)
+-- a value that was read from a part of the summary
+pub value_found : (column : PrimitiveType) {part bs : List ℕ} {r : Res (Option (Bor (List ℕ)))} {row : Option (Bor (List ℕ))}
+    → lent_value r ≡ value (layout column) part → part ≡ bs → r ≡ Ok row → value (layout column) bs ≡ Ok (option_copied row)
+value_found column told is was = rw (← is) (sym told ∙ ap lent_value was)
 
--- two value records, as they were read, and what is made of them
-module _ (column : PrimitiveType) (has_missing : Bool) where
-  abbrev made : Bool → Res (Row (List ℕ)) → Res (Row (List ℕ)) → Res summaries.Summary
-  made none x y = do
-    low ← x
-    high ← y
-    ends ← ends_of none low high
-    ok (record { column = column; ends = ends; has_missing = has_missing })
+-- all but the ends was read
+pub record Read (f : List ℕ) (column : PrimitiveType) (low high : Row (List ℕ)) : Type 0 where
+  pub sized : length f ≡ summary_size
+  pub typed : find types (slice_index f type_at) ≡ Ok column
+  pub flagged : slice_index f flag_at ≤ highest_flag
+  pub lowest : value (layout column) (record_at f 0) ≡ Ok low
+  pub highest : value (layout column) (record_at f 1) ≡ Ok high
 
-  made_ends : (none : Bool) (x y : Res (Row (List ℕ))) → is_end (not none) x ≡ true → is_end (not none) y ≡ true
-      → summary-result.Ok (record { column = column; present = not none; missing = has_missing }) ≡ summary_result (made none x y)
-  made_ends true (ok missing) (ok missing) h k = refl
-  made_ends true (ok missing) (ok (present b)) h k = cc
-  made_ends true (ok missing) (err e) h k = cc
-  made_ends true (ok (present a)) y h k = cc
-  made_ends true (err e) y h k = cc
-  made_ends false (ok missing) y h k = cc
-  made_ends false (ok (present a)) (ok missing) h k = cc
-  made_ends false (ok (present a)) (ok (present b)) h k = refl
-  made_ends false (ok (present a)) (err e) h k = cc
-  made_ends false (err e) y h k = cc
+module _ {f : List ℕ} {column : PrimitiveType} {low high : Row (List ℕ)} (read : Read f column low high) where
+  abbrev flag : ℕ
+  flag = slice_index f flag_at
 
-  -- a value record is refused with 3 alone
-  made_refused : (none : Bool) (x y : Res (Row (List ℕ))) → OnlyMalformed x → OnlyMalformed y → (is_end (not none) x && is_end (not none) y) ≡ false
-      → summary-result.Err Malformed ≡ summary_result (made none x y)
-  made_refused none (err e) y m n h = ap summary-result.Err (sym (m.only e refl))
-  made_refused none (ok low) (err e) m n h = ap summary-result.Err (sym (n.only e refl))
-  made_refused true (ok missing) (ok missing) m n h = cc
-  made_refused true (ok missing) (ok (present b)) m n h = refl
-  made_refused true (ok (present a)) (ok high) m n h = refl
-  made_refused false (ok missing) (ok high) m n h = refl
-  made_refused false (ok (present a)) (ok missing) m n h = refl
-  made_refused false (ok (present a)) (ok (present b)) m n h = cc
+  abbrev with_ends : summaries.Ends (List ℕ) → Res summaries.Summary
+  with_ends ends = Ok (record { column = column; ends = ends; has_missing = says_missing flag })
 
-module _ (f : List ℕ) where
-  pub wrong_size : (length f ≡ summary_size → ⊥) → summary-result.Err Malformed ≡ summary_result (summary f)
+  by_ends : summary f ≡ (ends_of (says_none flag) low high >>= with_ends)
   unfolding summary
-  wrong_size h = rw (ne_eqb (length f) summary_size h)
+  by_ends =
+      rw (
+        eq-eqb (length f) summary_size read.sized,
+        word_one type_at f,
+        word_one flag_at f,
+        read.typed,
+        le-leb flag highest_flag read.flagged,
+        read.lowest,
+        read.highest,
+      )
 
-  module _ (sized : length f ≡ summary_size) where
-    pub no_type : {e : ErrorKind} → find types (word type_at 1 f) ≡ err e → summary-result.Err e ≡ summary_result (summary f)
-    unfolding summary
-    no_type h = rw (eq-eqb (length f) summary_size sized, h)
+  module _ {r : Res (Option Ends)} (told : ends_told r ≡ ends_of (says_none flag) low high) where
+    pub no_ends : {e : ErrorKind} → r ≡ Err e → summary f ≡ Err e
+    no_ends was = by_ends ∙ ap (λ x. x >>= with_ends) (sym told ∙ ap ends_told was)
 
-    module _ {column : PrimitiveType} (typed : find types (word type_at 1 f) ≡ ok column) {flag : ℕ} (says : word flag_at 1 f ≡ flag) where
-      pub wrong_flag : highest_flag < flag → summary-result.Err Malformed ≡ summary_result (summary f)
-      unfolding summary
-      wrong_flag h = rw (eq-eqb (length f) summary_size sized, typed, says, lt-leb flag highest_flag h)
+    pub summary_made : {ends : Option Ends} → r ≡ Ok ends → Ok (record { column = column; ends = ends_in ends; has_missing = says_missing flag }) ≡ summary f
+    summary_made was = sym (by_ends ∙ ap (λ x. x >>= with_ends) (sym told ∙ ap ends_told was))
 
-      module _ (flagged : flag ≤ highest_flag) where
-        abbrev lowest : Res (Row (List ℕ))
-        lowest = value (layout column) (record_at f 0)
-
-        abbrev highest : Res (Row (List ℕ))
-        highest = value (layout column) (record_at f 1)
-
-        so_far : summary f ≡ made column (says_missing flag) (says_none flag) lowest highest
-        unfolding summary
-        so_far = rw (eq-eqb (length f) summary_size sized, typed, says, le-leb flag highest_flag flagged)
-
-        pub both_ends : is_end (ltb flag 2) lowest ≡ true → is_end (ltb flag 2) highest ≡ true
-            → summary-result.Ok (record { column = column; present = ltb flag 2; missing = says_missing flag }) ≡ summary_result (summary f)
-        both_ends h k =
-            let is = some_present_lem flag in
-            rw (so_far, is) (made_ends column (says_missing flag) (says_none flag) lowest highest (rw is at h) (rw is at k))
-
-        pub no_ends : (is_end (ltb flag 2) lowest && is_end (ltb flag 2) highest) ≡ false → summary-result.Err Malformed ≡ summary_result (summary f)
-        no_ends h =
-            let l = value_only (layout column) (record_at f 0) in
-            let k = value_only (layout column) (record_at f 1) in
-            rw so_far (made_refused column (says_missing flag) (says_none flag) lowest highest l k (rw (some_present_lem flag) at h))
+    -- two ends are the contents of the two records
+    pub ends_fit : {ends : Option Ends} → r ≡ Ok ends → (x : Ends) → ends ≡ Some x → EndsFit (layout column) x.lowest.now x.highest.now
+    ends_fit was x is =
+        let found = ends_found (says_none flag) low high (x.lowest.now to x.highest.now) (sym told ∙ ap ends_told was ∙ ap (λ e. Ok (ends_in e)) is) in
+        record {
+          low = (value_read column (record_at f 0) (present x.lowest.now) (read.lowest ∙ ap Ok found.low_is)).fit;
+          high = (value_read column (record_at f 1) (present x.highest.now) (read.highest ∙ ap Ok found.high_is)).fit;
+        }

@@ -1,10 +1,10 @@
 -- The values that the ends of a file stand for, their order, and which values lie between them. Assumes nothing.
-use Rattle.std.specs.Prelude.{ℕ, Bool, true, false, not, ◌&&◌, List}
+use Rattle.std.specs.Prelude.{ℕ, Bool, true, false, not, ◌&&◌, List, Ok}
 use Rattle.values.specs.Order.{compare_numbers, compare_bytes, is_less}
-use Rattle.values.specs.Outcomes.{Res, ok, ◌>>=◌, Row, missing, present}
+use Rattle.values.specs.Outcomes.{Res, ◌>>=◌, Row, missing, present}
 use Rattle.values.specs.Types.{layout}
 use Rattle.values.specs.declared.datatypes.PrimitiveType.{PrimitiveType}
-use Rattle.values.specs.declared.order.Ordering.{Ordering}
+use Rattle.std.specs.declared.cmp.Ordering.{Ordering}
 use Rattle.sheet.specs.Values.{number_of, by_layout}
 use Rattle.summary.specs.Summaries.{Ends, none_present, ◌to◌}
 
@@ -15,11 +15,11 @@ map_ends f none_present = none_present
 map_ends f (l to h) = f l to f h
 
 abbrev pub read_ends : {A B : Type 0} → (A → Res B) → Ends A → Res (Ends B)
-read_ends read none_present = ok none_present
+read_ends read none_present = Ok none_present
 read_ends read (l to h) = do
   x ← read l
   y ← read h
-  ok (x to y)
+  Ok (x to y)
 
 -- ---- their order
 

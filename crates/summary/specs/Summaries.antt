@@ -1,8 +1,8 @@
 -- Files known only by their ends: what a summary says of a file, and how it stands in bytes. One rule of document 02, #104, a line; what fails one is 3.
 -- Assumes nothing.
-use Rattle.std.specs.Prelude.{ℕ, ◌+◌, ◌*◌, ◌%◌, Bool, true, false, cond, List, ◌==◌, nat_le, length}
+use Rattle.std.specs.Prelude.{ℕ, ◌+◌, ◌*◌, ◌%◌, Bool, true, false, cond, List, ◌==◌, nat_le, length, Ok, Err}
 use Rattle.values.specs.Numbered.{find}
-use Rattle.values.specs.Outcomes.{Res, ok, err, need, ◌>>=◌, ◌>>◌, Row, missing, present}
+use Rattle.values.specs.Outcomes.{Res, need, ◌>>=◌, ◌>>◌, Row, missing, present}
 use Rattle.values.specs.Types.{types, layout}
 use Rattle.values.specs.Words.{word}
 use Rattle.values.specs.declared.datatypes.PrimitiveType.{PrimitiveType}
@@ -51,12 +51,12 @@ flag_of has_missing some = cond has_missing 1 0 + cond some 0 2
 
 -- 02: "plus 2 for none present, when both ends are marked missing"; where a value is present neither end is marked missing
 abbrev pub ends_of : {A : Type 0} → Bool → Row A → Row A → Res (Ends A)
-ends_of true missing missing = ok none_present
-ends_of true missing (present h) = err Malformed
-ends_of true (present l) h = err Malformed
-ends_of false missing h = err Malformed
-ends_of false (present l) missing = err Malformed
-ends_of false (present l) (present h) = ok (l to h)
+ends_of true missing missing = Ok none_present
+ends_of true missing (present h) = Err Malformed
+ends_of true (present l) h = Err Malformed
+ends_of false missing h = Err Malformed
+ends_of false (present l) missing = Err Malformed
+ends_of false (present l) (present h) = Ok (l to h)
 
 -- 02: "any other shape is 3"
 unfoldable pub summary : List ℕ → Res Summary
@@ -67,4 +67,4 @@ summary f = do
   lowest ← value (layout column) (record_at f 0)
   highest ← value (layout column) (record_at f 1)
   ends ← ends_of (says_none (word flag_at 1 f)) lowest highest
-  ok (record { column = column; ends = ends; has_missing = says_missing (word flag_at 1 f) })
+  Ok (record { column = column; ends = ends; has_missing = says_missing (word flag_at 1 f) })

@@ -2,3 +2,4 @@
 pub mod SummaryBytesLaws
 pub mod SummaryLaws
 pub mod EndLaws
+pub mod EndPlaceLaws

@@ -1,57 +1,48 @@
 // What is asked of the ends of a summary that was read.
-ghost use Rattle.std.specs.Prelude.{true, ◌≡◌};
+ghost use Rattle.std.specs.Prelude.{true, ◌≡◌, length};
 ghost use Rattle.values.specs.Order.{is_less};
-ghost use Rattle.values.specs.Types.{layout};
-ghost use Rattle.sheet.specs.code.ReadAnswers.{content_at, LiteralAt};
+ghost use Rattle.values.specs.Types.{layout, fits};
 ghost use Rattle.summary.specs.EndValues.{compare_in, ordered};
-ghost use Rattle.summary.specs.code.SummaryAnswers.{EndsThere, ends_at, ends_encoded};
+ghost use Rattle.summary.specs.code.SummaryAnswers.{ends_in, ends_encoded};
 
 use crate::summary::Summary;
-use sheet::literal::{content_of, number_of};
+use sheet::content::number_in;
 use values::datatypes::PrimitiveType;
 use values::order::is_less;
 use values::utf8::is_utf8;
 
 // Whether the ends are what their type asks for.
-pub fn ends_encoded(file: Summary, f: &[u8]) -> bool
-    requires { file.present ≡ true → EndsThere (layout file.column) f.now }
-    ensures { result ≡ ends_encoded file.column (ends_at file.present f.now) }
+#[inline(always)]
+pub fn ends_encoded(file: Summary) -> bool
+    ensures { result ≡ ends_encoded file.entry.column (ends_in file.entry.ends) }
 {
-    let column = file.column;
-    if let PrimitiveType::String = column {
-        if !file.present {
-            return true;
+    match file.ends {
+        Some(ends) if file.column == PrimitiveType::String => {
+            is_utf8(ends.lowest) && is_utf8(ends.highest)
         }
-        if !is_utf8(content_of(f, 0)) {
-            return false;
-        }
-        return is_utf8(content_of(f, 1));
+        _ => true,
     }
-    true
 }
 
-// Whether the content of record j of a is below that of record k of b, by the order of the values of their type.
-pub fn is_below(a: &[u8], j: usize, b: &[u8], k: usize, column: PrimitiveType) -> bool
-    requires literal_at { LiteralAt (layout column) a.now j }
-    requires literal_at_2 { LiteralAt (layout column) b.now k }
-    ensures { result ≡ is_less (compare_in column (content_at a.now j) (content_at b.now k)) }
+// Whether the content a is below b, by the order of the values of their type.
+#[tactic(auto, using(crate::proofs::OrderedEnds::numbers_below, values::specs::laws::SignedLaws::back))]
+pub fn is_below(a: &[u8], b: &[u8], column: PrimitiveType) -> bool
+    requires a_fits { fits (layout column) (length a.now) ≡ true }
+    requires b_fits { fits (layout column) (length b.now) ≡ true }
+    ensures { result ≡ is_less (compare_in column a.now b.now) }
 {
     if column.is_bytes() {
-        return is_less(content_of(a, j), content_of(b, k));
+        is_less(a, b)
+    } else {
+        number_in(a) < number_in(b)
     }
-    let x = number_of(a, j, column);
-    let y = number_of(b, k, column);
-    x < y
 }
 
 // Whether the lowest end is not above the highest.
-pub fn ends_ordered(file: Summary, f: &[u8]) -> bool
-    requires { file.present ≡ true → EndsThere (layout file.column) f.now }
-    ensures { result ≡ ordered (compare_in file.column) (ends_at file.present f.now) }
+#[inline(always)]
+pub fn ends_ordered(file: Summary) -> bool
+    ensures { result ≡ ordered (compare_in file.entry.column) (ends_in file.entry.ends) }
 {
-    if !file.present {
-        return true;
-    }
-    let column = file.column;
-    !is_below(f, 1, f, 0, column)
+    file.ends
+        .is_none_or(|ends| !is_below(ends.highest, ends.lowest, file.column))
 }

@@ -1,7 +1,7 @@
 -- Program `weighpick`, from the bytes of standard input to those of standard output. Document 01: "Program `weighpick` reads one sheet from standard input and
 -- prints two lines: question, answer number, then, after 0, operator and literals, one space apart." How a line is written stands in `Text`. Assumes nothing.
-use Rattle.std.specs.Prelude.{ℕ, ◌*◌, List, [], ◌∷◌, ◌++◌, ◌≡◌, refl, pos}
-use Rattle.values.specs.Outcomes.{Res, ok, err}
+use Rattle.std.specs.Prelude.{ℕ, ◌*◌, List, [], ◌∷◌, ◌++◌, ◌≡◌, refl, pos, Ok, Err}
+use Rattle.values.specs.Outcomes.{Res}
 use Rattle.values.specs.Transforms.{transform_of}
 use Rattle.values.specs.Types.{in_type}
 use Rattle.values.specs.Words.{signed_bytes}
@@ -15,7 +15,7 @@ use Rattle.projection.specs.declared.question.Question.TheVariants.{Inclusive, S
 use Rattle.sheet.specs.Records.{content}
 use Rattle.sheet.specs.Sheets.{sheet, head, fields}
 use Rattle.write.specs.Written.{answer_sheet, sheet_buffer}
-use Rattle.answers.specs.Answers.{projected_leaf, answer_of, answer_number}
+use Rattle.answers.specs.Answers.{projected_leaf, answer_of, refused_as, answer_number}
 use Rattle.api.specs.Requests.{sheet_of}
 use Rattle.api.specs.Routines.{project_sheet}
 use Rattle.values.specs.Characters.{ascii}
@@ -23,13 +23,13 @@ use Rattle.text.specs.Text.{digits, answer_line}
 
 -- the answer sheet of a projection; after 1 and after a refusal there is none
 abbrev pub answer_in : Res (Projected (List ℕ)) → List ℕ
-answer_in (ok (some answer)) = answer
-answer_in (ok none) = []
-answer_in (err e) = []
+answer_in (Ok (some answer)) = answer
+answer_in (Ok none) = []
+answer_in (Err e) = []
 
 -- "question, answer number, then, after 0, operator and literals": the line of a question's word and of what its projection answers
 abbrev pub projection_line : List ℕ → Res (Projected (List ℕ)) → List ℕ
-projection_line word r = answer_line word (answer_number (answer_of r)) (answer_in r)
+projection_line word r = answer_line word (answer_number (refused_as (answer_of r))) (answer_in r)
 
 -- "reads one sheet .. and prints two lines"; "Over 4,160 bytes is 3", as of any sheet to be projected (`over_the_longest`)
 unfoldable pub printed : List ℕ → List ℕ

@@ -1,9 +1,9 @@
 -- What program `weighpick` prints. Document 01: "prints two lines: question, answer number, then, after 0, operator and literals, one space apart. Numbers are
 -- decimal; strings lower-case hexadecimal, an empty one `-`." Assumes nothing.
-use Rattle.std.specs.Prelude.{ℕ, zero, suc, ◌+◌, ◌-◌, ◌/◌, ◌%◌, cond, List, [], ◌∷◌, ◌++◌, map, ◌≡◌, refl, nat_lt, ℤ, pos, negsuc}
+use Rattle.std.specs.Prelude.{ℕ, zero, suc, ◌+◌, ◌-◌, ◌/◌, ◌%◌, cond, List, [], ◌∷◌, ◌++◌, map, ◌≡◌, refl, nat_lt, ℤ, pos, negsuc, Ok, Err}
 use Prim.Native.Char.{code}
 use Rattle.values.specs.Characters.{ascii}
-use Rattle.values.specs.Outcomes.{Res, ok, err}
+use Rattle.values.specs.Outcomes.{Res}
 use Rattle.values.specs.Types.{Layout, number, bytes, layout}
 use Rattle.values.specs.Transforms.{transform_of}
 use Rattle.values.specs.Words.{le_number, signed, signed_bytes}
@@ -80,8 +80,8 @@ predicate_words x = digits (operator_number (operator_in x.leaf)) ∷ map (liter
 
 -- the words of what is read in an answer: an answer sheet is a sheet, and bytes that are none have no words
 abbrev pub words_read : Res Sheet → List (List ℕ)
-words_read (ok x) = predicate_words x
-words_read (err e) = []
+words_read (Ok x) = predicate_words x
+words_read (Err e) = []
 
 abbrev pub answer_words : List ℕ → List (List ℕ)
 answer_words answer = words_read (sheet holds_limit answer)

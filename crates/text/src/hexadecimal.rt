@@ -1,7 +1,10 @@
 // Byte strings in hexadecimal.
-ghost use Rattle.std.specs.Prelude.{◌≡◌, ◌+◌, ◌≤◌, ◌<◌, length};
-ghost use Rattle.values.specs.Words.{over};
+ghost use Rattle.std.specs.Prelude.{◌≡◌, ◌<◌};
+ghost use Rattle.arrayvec.specs.ArrayVec.{Extends};
+ghost use Rattle.text.specs.code.Room.{HasRoom};
 ghost use Rattle.text.specs.Text.{digit, hexadecimal};
+
+use crate::output::Output;
 
 // The character of a digit.
 pub fn digit_of(v: u8) -> u8
@@ -11,23 +14,16 @@ pub fn digit_of(v: u8) -> u8
     if v < 10 { b'0' + v } else { b'a' + (v - 10) }
 }
 
-// Writes a byte string from index `at` on, and gives the index after it.
-pub fn put_hexadecimal(d: &mut [u8], at: usize, bs: &[u8]) -> usize
-    requires { at + length (hexadecimal bs.now) ≤ length d.old }
-    ensures d_after { d.new ≡ over at (hexadecimal bs.now) d.old }
-    ensures value { result ≡ at + length (hexadecimal bs.now) }
+// Writes a byte string. `hex` writes to a buffer of just the text's length, which would be no plainer than two digits for each byte.
+pub fn put_hexadecimal(out: &mut Output, bs: &[u8])
+    requires { HasRoom out.old (hexadecimal bs.now) }
+    ensures { Extends out.old (hexadecimal bs.now) out.new }
 {
-    if bs.len() == 0 {
-        d[at] = b'-';
-        return at + 1;
+    if bs.is_empty() {
+        out.push(b'-');
     }
-    let mut end = at;
-    let mut i = 0;
-    while i < bs.len() {
-        d[end] = digit_of(bs[i] / 16);
-        d[end + 1] = digit_of(bs[i] % 16);
-        end += 2;
-        i += 1;
+    for b in bs {
+        out.push(digit_of(*b / 16));
+        out.push(digit_of(*b % 16));
     }
-    end
 }

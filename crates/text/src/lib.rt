@@ -1,7 +1,7 @@
-// What program `weighpick` prints, written into a lent buffer.
+// What program `weighpick` prints.
 #![tactic(auto)]
 
-pub mod decimal;
 pub mod hexadecimal;
 pub mod line;
+pub mod output;
 pub mod program;

@@ -1,108 +1,81 @@
 // Literals, predicates, and lines.
-ghost use Rattle.std.specs.Prelude.{◌∷◌, ◌≡◌, ◌+◌, ◌≤◌, length};
+ghost use Rattle.std.specs.Prelude.{◌∷◌, ◌<◌, length, get_or};
+ghost use Rattle.arrayvec.specs.ArrayVec.{Extends};
 ghost use Rattle.values.specs.Types.{layout};
-ghost use Rattle.values.specs.Words.{over};
-ghost use Rattle.sheet.specs.code.ReadAnswers.{LiteralAt, Placed, content_at, contents_at};
+ghost use Rattle.sheet.specs.code.Placed.{content_at};
+ghost use Rattle.sheet.specs.code.SheetAnswers.{contents_of};
+ghost use Rattle.text.specs.code.Room.{HasRoom};
 ghost use Rattle.text.specs.Text.{space, digits, literal_text, literals_text, answer_words, spaced, after_zero, answer_line};
 
-use crate::decimal::{put_decimal, put_digits};
 use crate::hexadecimal::put_hexadecimal;
+use crate::output::{Output, put_number, put_text};
 use expr::operator::HOLDS_LIMIT;
-use sheet::literal::{content_of, number_of, record_of};
-use sheet::sheet::{SheetResult, read_sheet};
-use values::datatypes::PrimitiveType;
-use write::write::put_bytes;
+use sheet::literals::Literals;
+use sheet::reader::read_sheet;
 
-// Each of these writes from index `at` on and gives the index after what it wrote.
-
-// The literal in record k.
-fn put_literal(d: &mut [u8], at: usize, s: &[u8], k: usize, column: PrimitiveType) -> usize
-    requires literal_at { LiteralAt (layout column) s.now k }
-    requires k_in_bounds { at + length (literal_text (layout column) (content_at s.now k)) ≤ length d.old }
-    ensures d_after { d.new ≡ over at (literal_text (layout column) (content_at s.now k)) d.old }
-    ensures value { result ≡ at + length (literal_text (layout column) (content_at s.now k)) }
+// Literal i.
+fn put_literal(out: &mut Output, literals: Literals, i: usize)
+    requires i_in_bounds { i < length literals.records.now }
+    requires room { HasRoom out.old (literal_text (layout literals.column) (content_at literals.sheet.now (get_or literals.records.now i 0))) }
+    ensures { Extends out.old (literal_text (layout literals.entry.column) (content_at literals.entry.sheet.now (get_or literals.entry.records.now i 0))) out.new }
 {
-    if column.is_bytes() {
-        return put_hexadecimal(d, at, content_of(s, k));
+    if literals.column.is_bytes() {
+        put_hexadecimal(out, literals.content(i));
+    } else {
+        put_number(out, literals.number(i));
     }
-    put_decimal(d, at, number_of(s, k, column))
 }
 
-// The literals in the first count records.
-fn put_literals(
-    d: &mut [u8],
-    at: usize,
-    s: &[u8],
-    records: &[u16],
-    count: usize,
-    column: PrimitiveType,
-) -> usize
-    requires placed { Placed (layout column) s.now records.now count }
-    requires count_in_bounds { at + length (literals_text (layout column) (contents_at s.now records.now count)) ≤ length d.old }
-    ensures d_after { d.new ≡ over at (literals_text (layout column) (contents_at s.now records.now count)) d.old }
-    ensures value { result ≡ at + length (literals_text (layout column) (contents_at s.now records.now count)) }
+// The literals, a space before each.
+fn put_literals(out: &mut Output, literals: Literals)
+    requires { HasRoom out.old (literals_text (layout literals.column) (contents_of literals)) }
+    ensures { Extends out.old (literals_text (layout literals.entry.column) (contents_of literals.entry)) out.new }
 {
-    let mut end = at;
-    let mut i = 0;
-    while i < count {
-        d[end] = b' ';
-        end = put_literal(d, end + 1, s, record_of(records, i), column);
-        i += 1;
+    for i in 0..literals.len() {
+        out.push(b' ');
+        put_literal(out, literals, i);
     }
-    end
 }
 
 // A number without a sign, after a space.
-fn put_word(d: &mut [u8], at: usize, v: u64) -> usize
-    requires { at + length (space ∷ digits v) ≤ length d.old }
-    ensures d_after { d.new ≡ over at (space ∷ digits v) d.old }
-    ensures value { result ≡ at + length (space ∷ digits v) }
+fn put_word(out: &mut Output, v: u32)
+    requires { HasRoom out.old (space ∷ digits v) }
+    ensures { Extends out.old (space ∷ digits v) out.new }
 {
-    d[at] = b' ';
-    put_digits(d, at + 1, v)
+    out.push(b' ');
+    put_number(out, i64::from(v));
 }
 
 // The predicate of an answer sheet: its operator and its literals.
-pub fn put_predicate(d: &mut [u8], at: usize, answer: &[u8]) -> usize
-    requires { at + length (spaced (answer_words answer.now)) ≤ length d.old }
-    ensures d_after { d.new ≡ over at (spaced (answer_words answer.now)) d.old }
-    ensures value { result ≡ at + length (spaced (answer_words answer.now)) }
+pub fn put_predicate(out: &mut Output, answer: &[u8])
+    requires { HasRoom out.old (spaced (answer_words answer.now)) }
+    ensures { Extends out.old (spaced (answer_words answer.now)) out.new }
 {
     let mut records = [0; HOLDS_LIMIT];
-    match read_sheet(answer, HOLDS_LIMIT, &mut records) {
-        SheetResult::Ok(read) => {
-            let head = read.head;
-            let operator = head.operator;
-            let column = head.column;
-            let end = put_word(d, at, operator.number() as u64);
-            put_literals(d, end, answer, &records, read.count, column)
-        }
-        SheetResult::Err(_) => at,
+    if let Ok(sheet) = read_sheet(answer, HOLDS_LIMIT, &mut records) {
+        put_word(out, u32::from(u16::from(sheet.operator)));
+        put_literals(out, sheet.literals);
     }
 }
 
 // What follows the number of an answer: after 0 the predicate of the answer sheet, after another number nothing.
-fn put_answer(d: &mut [u8], at: usize, number: u32, answer: &[u8]) -> usize
-    requires { at + length (spaced (after_zero number (answer_words answer.now))) ≤ length d.old }
-    ensures d_after { d.new ≡ over at (spaced (after_zero number (answer_words answer.now))) d.old }
-    ensures value { result ≡ at + length (spaced (after_zero number (answer_words answer.now))) }
+fn put_answer(out: &mut Output, number: u32, answer: &[u8])
+    requires { HasRoom out.old (spaced (after_zero number (answer_words answer.now))) }
+    ensures { Extends out.old (spaced (after_zero number (answer_words answer.now))) out.new }
 {
     if number == 0 {
-        put_predicate(d, at, answer)
-    } else {
-        at
+        put_predicate(out, answer);
     }
 }
 
 // The line for a question, the number of its answer, and the answer sheet, which counts after 0.
-pub fn put_line(d: &mut [u8], at: usize, question: &[u8], number: u32, answer: &[u8]) -> usize
-    requires { at + length (answer_line question.now number answer.now) ≤ length d.old }
-    ensures d_after { d.new ≡ over at (answer_line question.now number answer.now) d.old }
-    ensures value { result ≡ at + length (answer_line question.now number answer.now) }
+#[tactic(auto, unfolding(crate::specs::Text::answer_line))]
+pub fn put_line(out: &mut Output, question: &[u8], number: u32, answer: &[u8])
+    requires { HasRoom out.old (answer_line question.now number answer.now) }
+    ensures { Extends out.old (answer_line question.now number answer.now) out.new }
 {
-    put_bytes(d, at, question);
-    let numbered = put_word(d, at + question.len(), number as u64);
-    let end = put_answer(d, numbered, number, answer);
-    d[end] = b'\n';
-    end + 1
+    put_text(out, question);
+    put_word(out, number);
+    put_answer(out, number, answer);
+    out.push(b'\n');
 }

@@ -1,3 +1,3 @@
 -- Lemmas that several proofs of this crate share.
-pub mod Runs
+pub mod Counting
 pub mod Readings

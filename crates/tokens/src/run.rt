@@ -1,45 +1,35 @@
-// Bytes of a text, and bytes of one class in a row.
-ghost use Rattle.std.specs.Prelude.{◌≡◌, ◌≤◌, length, get_or};
-ghost use Rattle.tokens.specs.code.TokenAnswers.{is_of, Ends};
+// Bytes of a text, and how many in a row are of one class.
+ghost use Rattle.std.specs.Prelude.{◌≡◌, get_or};
+ghost use Rattle.std.specs.List.{prefix_len};
+ghost use Rattle.values.specs.Characters.{is_letter};
+ghost use Rattle.tokens.specs.Tokens.{is_space, is_text};
 
 use values::characters::is_letter;
-
-#[derive(Clone, Copy)]
-pub enum Class {
-    Spaces,
-    Letters,
-    Unquoted,
-}
 
 // The byte at i, and 0 past the end.
 pub fn byte(s: &[u8], i: usize) -> u8
     ensures { result ≡ get_or s.now i 0 }
 {
-    if i < s.len() { s[i] } else { 0 }
+    s.get(i).copied().unwrap_or(0)
 }
 
-// Whether a byte is of the class.
-fn passes(class: Class, b: u8) -> bool
-    ensures { result ≡ is_of class b }
+// How many spaces a text begins with.
+pub fn leading_spaces(s: &[u8]) -> usize
+    ensures { result ≡ prefix_len is_space s.now }
 {
-    match class {
-        Class::Spaces => b == b' ',
-        Class::Letters => is_letter(b),
-        Class::Unquoted => b != b'\'',
-    }
+    s.iter().take_while(|b| **b == b' ').count()
 }
 
-// Where the bytes of a class end that stand in a row from `at` on.
-pub fn after_run(s: &[u8], at: usize, class: Class) -> usize
-    requires { at ≤ length s.now }
-    ensures { Ends (is_of class) s.now at result }
+// How many letters.
+pub fn leading_letters(s: &[u8]) -> usize
+    ensures { result ≡ prefix_len is_letter s.now }
 {
-    let mut i = at;
-    while i < s.len() {
-        if !passes(class, s[i]) {
-            return i;
-        }
-        i += 1;
-    }
-    i
+    s.iter().take_while(|b| is_letter(**b)).count()
+}
+
+// How many bytes before the first quote, or the end.
+pub fn leading_text(s: &[u8]) -> usize
+    ensures { result ≡ prefix_len is_text s.now }
+{
+    s.iter().take_while(|b| **b != b'\'').count()
 }

@@ -1,161 +1,116 @@
 // The token that a text begins with.
 ghost use Rattle.std.specs.Prelude.{true, ◌≡◌, ◌+◌, ◌≤◌, ◌<◌, pos, length, drop, get_or};
 ghost use Rattle.values.specs.Characters.{is_letter, is_digit};
-ghost use Rattle.expr.specs.Operators.{not_eq};
-ghost use Rattle.tokens.specs.Tokens.{sign, unreadable, word_at, decimal_at, minus_at, quoted_at, longest, token};
-ghost use Rattle.tokens.specs.code.TokenAnswers.{plain, sign_of, decimal_of, Takes, Longest, Reads};
+ghost use Rattle.tokens.specs.Tokens.{word_at, decimal_at, minus_at, quoted_at, token};
+ghost use Rattle.tokens.specs.code.TokenAnswers.{decimal_of, Takes, Longest, Reads};
 
-use crate::decimal::{digits_at, negative};
-use crate::run::{Class, after_run, byte};
+use crate::decimal::leading_digits;
+use crate::run::{byte, leading_letters, leading_spaces, leading_text};
 use expr::operator::PredicateOperator;
 use values::characters::{is_digit, is_letter};
 
+// A part of a text, by where it begins and ends.
+#[derive(Clone, Copy, PartialEq, Eq)]
+pub struct Span {
+    pub from: usize,
+    pub to: usize,
+}
+
 // What a text begins with, after its spaces.
-#[derive(Clone, Copy)]
-pub enum TokenKind {
+#[derive(Clone, Copy, PartialEq, Eq)]
+pub enum Token {
     End,
-    Word,
-    Sign,
-    Decimal,
+    Word(Span),
+    Sign(PredicateOperator),
+    // A decimal that 64 bits hold, and one that they do not.
+    Decimal(i64),
     TooLarge,
-    Quoted,
+    // The text between the quotes.
+    Quoted(Span),
     Opening,
     Closing,
     Unreadable,
 }
 
-#[derive(Clone, Copy)]
-pub struct Token {
-    pub kind: TokenKind,
-    // Of a sign.
-    pub operator: PredicateOperator,
-    // Of a decimal that 64 bits hold; one that they do not is `TooLarge`.
-    pub number: i64,
-    // Where the letters of a word, or the text between quotes, begin and end.
-    pub from: usize,
-    pub to: usize,
-    // Where the text after the token begins.
-    pub next: usize,
+fn decimal(number: Option<i64>) -> Token
+    ensures { result ≡ decimal_of number }
+{
+    number.map_or(Token::TooLarge, Token::Decimal)
 }
 
-// A token with no operator and no number.
-fn plain(kind: TokenKind, from: usize, to: usize, next: usize) -> Token
-    ensures { result ≡ plain kind from to next }
-{
-    Token {
-        kind,
-        operator: PredicateOperator::Eq,
-        number: 0,
-        from,
-        to,
-        next,
-    }
-}
-
-fn sign(operator: PredicateOperator, from: usize, next: usize) -> Token
-    ensures { result ≡ sign_of operator from next }
-{
-    Token {
-        kind: TokenKind::Sign,
-        operator,
-        number: 0,
-        from,
-        to: next,
-        next,
-    }
-}
-
-fn decimal(number: i64, from: usize, next: usize) -> Token
-    ensures { result ≡ decimal_of number from next }
-{
-    Token {
-        kind: TokenKind::Decimal,
-        operator: PredicateOperator::Eq,
-        number,
-        from,
-        to: next,
-        next,
-    }
-}
+// ---- A token, and where the text after it begins.
 
 // A word, which begins with the letter at `from`.
-fn word_at(s: &[u8], from: usize) -> Token
+#[tactic(auto, using(crate::specs::laws::RunLaws::runs))]
+fn word_at(s: &[u8], from: usize) -> (Token, usize)
     requires { is_letter (get_or s.now from 0) ≡ true }
-    ensures { Takes s.now from result (word_at (drop from s.now)) }
+    ensures { Takes s.now from result.0 result.1 (word_at (drop from s.now)) }
 {
-    let to = after_run(s, from + 1, Class::Letters);
-    plain(TokenKind::Word, from, to, to)
+    let to = from + leading_letters(&s[from..]);
+    (Token::Word(Span { from, to }), to)
 }
 
 // A decimal without a minus, which begins with the digit at `from`.
-fn natural_at(s: &[u8], from: usize) -> Token
+#[tactic(auto, using(crate::specs::laws::RunLaws::runs))]
+fn natural_at(s: &[u8], from: usize) -> (Token, usize)
     requires { is_digit (get_or s.now from 0) ≡ true }
-    ensures { Takes s.now from result (decimal_at pos (drop from s.now)) }
+    ensures { Takes s.now from result.0 result.1 (decimal_at pos (drop from s.now)) }
 {
-    let digits = digits_at(s, from);
-    if digits.magnitude > 9223372036854775807 {
-        return plain(TokenKind::TooLarge, from, digits.next, digits.next);
-    }
-    decimal(digits.magnitude as i64, from, digits.next)
+    let digits = leading_digits(&s[from..]);
+    let number = 0i64.checked_add_unsigned(digits.magnitude);
+    (decimal(number), from + digits.len)
 }
 
 // A decimal with the minus at `from`, which is unreadable where no digit follows at once.
-fn minus_at(s: &[u8], from: usize) -> Token
+#[tactic(auto, using(crate::specs::laws::RunLaws::runs, crate::proofs::Readings::minus_refused))]
+fn minus_at(s: &[u8], from: usize) -> (Token, usize)
     requires { from < length s.now }
-    ensures { Takes s.now from result (minus_at (drop (from + 1) s.now)) }
+    ensures { Takes s.now from result.0 result.1 (minus_at (drop (from + 1) s.now)) }
 {
     let first = from + 1;
     if !is_digit(byte(s, first)) {
-        return plain(TokenKind::Unreadable, from, first, first);
+        return (Token::Unreadable, first);
     }
-    let digits = digits_at(s, first);
-    if digits.magnitude > 9223372036854775808 {
-        return plain(TokenKind::TooLarge, from, digits.next, digits.next);
-    }
-    decimal(negative(digits.magnitude), from, digits.next)
+    let digits = leading_digits(&s[first..]);
+    let number = 0i64.checked_sub_unsigned(digits.magnitude);
+    (decimal(number), first + digits.len)
 }
 
 // Text in quotes, of which the first stands at `from`.
-fn quoted_at(s: &[u8], from: usize) -> Token
+#[tactic(auto, using(crate::specs::laws::RunLaws::runs, crate::proofs::Readings::unclosed_taken, crate::proofs::Readings::quoted_taken))]
+fn quoted_at(s: &[u8], from: usize) -> (Token, usize)
     requires { from < length s.now }
-    ensures { Takes s.now from result (quoted_at (drop (from + 1) s.now)) }
+    ensures { Takes s.now from result.0 result.1 (quoted_at (drop (from + 1) s.now)) }
 {
     let start = from + 1;
-    let end = after_run(s, start, Class::Unquoted);
+    let end = start + leading_text(&s[start..]);
     if end == s.len() {
-        return plain(TokenKind::Unreadable, from, end, end);
+        return (Token::Unreadable, end);
     }
-    plain(TokenKind::Quoted, start, end, end + 1)
+    let text = Span {
+        from: start,
+        to: end,
+    };
+    (Token::Quoted(text), end + 1)
 }
 
 // One of two signs that begin with the character at `from`: with `=` as the next one, and without.
-fn longest_at(s: &[u8], from: usize, with: PredicateOperator, without: PredicateOperator) -> Token
+fn longest_at(s: &[u8], from: usize, with: Token, without: Token) -> (Token, usize)
     requires { from < length s.now }
-    ensures { Longest with without s.now from result }
+    ensures { Longest with without s.now from result.0 result.1 }
 {
     let next = from + 1;
     if byte(s, next) == b'=' {
-        return sign(with, from, next + 1);
+        return (with, next + 1);
     }
-    sign(without, from, next)
-}
-
-// The sign that begins with the `!` at `from`: without `=` it is none.
-fn unequal_at(s: &[u8], from: usize) -> Token
-    requires { from < length s.now }
-    ensures { Takes s.now from result (longest (sign not_eq) unreadable (drop (from + 1) s.now)) }
-{
-    let next = from + 1;
-    if byte(s, next) == b'=' {
-        return sign(PredicateOperator::NotEq, from, next + 1);
-    }
-    plain(TokenKind::Unreadable, from, next, next)
+    (without, next)
 }
 
 // The token that begins at `from`, where no space stands.
-fn token_from(s: &[u8], from: usize) -> Token
+#[tactic(auto, using(crate::proofs::Readings::other_first))]
+fn token_from(s: &[u8], from: usize) -> (Token, usize)
     requires { from < length s.now }
-    ensures { Takes s.now from result (token (drop from s.now)) }
+    ensures { Takes s.now from result.0 result.1 (token (drop from s.now)) }
 {
     let first = s[from];
     if is_letter(first) {
@@ -168,34 +123,40 @@ fn token_from(s: &[u8], from: usize) -> Token
     match first {
         b'-' => minus_at(s, from),
         b'\'' => quoted_at(s, from),
-        b'(' => plain(TokenKind::Opening, from, next, next),
-        b')' => plain(TokenKind::Closing, from, next, next),
+        b'(' => (Token::Opening, next),
+        b')' => (Token::Closing, next),
         b'<' => longest_at(
             s,
             from,
-            PredicateOperator::LessThanOrEq,
-            PredicateOperator::LessThan,
+            Token::Sign(PredicateOperator::LessThanOrEq),
+            Token::Sign(PredicateOperator::LessThan),
         ),
         b'>' => longest_at(
             s,
             from,
-            PredicateOperator::GreaterThanOrEq,
-            PredicateOperator::GreaterThan,
+            Token::Sign(PredicateOperator::GreaterThanOrEq),
+            Token::Sign(PredicateOperator::GreaterThan),
         ),
-        b'=' => sign(PredicateOperator::Eq, from, next),
-        b'!' => unequal_at(s, from),
-        _ => plain(TokenKind::Unreadable, from, next, next),
+        b'=' => (Token::Sign(PredicateOperator::Eq), next),
+        b'!' => longest_at(
+            s,
+            from,
+            Token::Sign(PredicateOperator::NotEq),
+            Token::Unreadable,
+        ),
+        _ => (Token::Unreadable, next),
     }
 }
 
 // The token after the spaces that stand from `at` on.
-pub fn token_at(s: &[u8], at: usize) -> Token
+#[tactic(auto, using(crate::specs::laws::RunLaws::runs, crate::proofs::Readings::end_read, crate::proofs::Readings::token_read))]
+pub fn token_at(s: &[u8], at: usize) -> (Token, usize)
     requires { at ≤ length s.now }
-    ensures { Reads s.now at result }
+    ensures { Reads s.now at result.0 result.1 }
 {
-    let from = after_run(s, at, Class::Spaces);
+    let from = at + leading_spaces(&s[at..]);
     if from == s.len() {
-        return plain(TokenKind::End, from, from, from);
+        return (Token::End, from);
     }
     token_from(s, from)
 }

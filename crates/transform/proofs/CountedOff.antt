@@ -1,13 +1,14 @@
 -- The counts that the code's steps give are those of the day's year. Assumes nothing.
+use Rattle.std.specs.Prelude.{Some}
 use Prim.Native.Nat.{ℕ, ◌+◌, ◌-◌, ◌*◌, ◌/◌, ◌%◌, ◌≤◌, ◌<◌, min}
 use mathlib.Core.Path.{◌≡◌, sym, ap, ◌∙◌}
 use mathlib.Core.Bool.{true}
 use native.Mathlib.Omega.{arith}
-use lib.IntN.{ℤ, pos, neg_ℤ, ◌+ℤ◌, ◌-ℤ◌, ◌*ℤ◌}
+use lib.IntN.{ℤ, pos, neg_ℤ, ◌+ℤ◌, ◌-ℤ◌}
 use lib.Signed.{◌≤ℤ◌}
 use mir.Syntax.{w32}
 use mir.Val.{SFits}
-use Rattle.values.specs.laws.IntLaws.{up, dn, ints, plus, minus, times}
+use Rattle.values.specs.laws.IntLaws.{up, dn, ints, plus, minus}
 use Rattle.transform.specs.Floor.{floor_div, floor_mod}
 use Rattle.transform.specs.laws.FloorLaws.{rem_lt, floor_lin, floor_fits}
 use Rattle.transform.specs.Gregorian.{leap, first_day, year_at}
@@ -18,7 +19,6 @@ use Rattle.transform.specs.YearGroups.{day_in_year, year_from, InRange, groups_o
 use Rattle.transform.specs.laws.YearGroupLaws.{year_lin, counts_only}
 use Rattle.transform.specs.code.TransformAnswers.{leap_after}
 use Rattle.transform.specs.declared.calendar.YearGroups.{YearGroups}
-use Rattle.transform.specs.declared.calendar.Grouped.TheVariants.{Into}
 use Rattle.transform.proofs.Groups.{year_past, day_past, begins, lies}
 
 -- ---- day r of 400 years
@@ -100,9 +100,6 @@ module _ (d : ℤ) where
   n400_lin : up days + dn n400 * 146097 ≡ dn days + (up n400 * 146097 + in_400)
   n400_lin = floor_lin 146097 (omega arith) days
 
-  pub in_400_is : days -ℤ n400 *ℤ pos 146097 ≡ pos in_400
-  in_400_is = omega (ints, n400_lin, times n400 146097, minus days (n400 *ℤ pos 146097))
-
   abbrev groups : YearGroups
   groups = record { n400 = n400; n100 = n100 in_400; n4 = n4 in_400; n1 = n1 in_400 }
 
@@ -135,7 +132,7 @@ module _ (d : ℤ) where
     unfolding day_in_year
     day_left = rw (cycle_day_is (shift days_back d), own_is, index_is) (left in_400 in_400_small (shift 656 n400))
 
-    pub counted_off : Into groups (in_1 in_400) ≡ grouped d
+    pub counted_off : Some (groups, in_1 in_400) ≡ grouped d
     counted_off = rw (h, ← groups_are, day_left)
 
     pub leap_is : leap_after (groups_of d) ≡ leap (year_at (shift days_back d))

@@ -1,5 +1,6 @@
 -- From a day to its civil date, and from the date to Iceberg's counts: that the code's signed sums fit, and what they are. Assumes nothing.
 use Prim.Native.Nat.{ℕ, ◌<◌}
+use Rattle.std.specs.Prelude.{Some}
 use mathlib.Core.Path.{◌≡◌, sym, ap, ◌∙◌}
 use mathlib.Core.Bool.{true, cond}
 use native.Mathlib.Omega.{arith}
@@ -17,12 +18,9 @@ use Rattle.transform.specs.laws.CalendarLaws.{year_of_range, month_of_range}
 use Rattle.transform.specs.YearGroups.{day_in_year, InRange, groups_of, grouped}
 use Rattle.transform.specs.laws.YearGroupLaws.{counts_in_range, counts_make_year}
 use Rattle.transform.specs.code.TransformAnswers.{year_after, leap_after, dated, counted}
-use Rattle.transform.specs.laws.TransformAnswerLaws.{dated_on, dated_outside, grouped_into}
+use Rattle.transform.specs.laws.TransformAnswerLaws.{dated_on, grouped_into}
 use Rattle.transform.specs.declared.calendar.YearGroups.{YearGroups}
-use Rattle.transform.specs.declared.calendar.Grouped.TheVariants.{Into}
 use Rattle.transform.specs.declared.calendar.Civil.{Civil}
-use Rattle.transform.specs.declared.calendar.Dated.TheVariants.{On, Outside}
-use Rattle.transform.specs.declared.calendar.Counted.TheVariants as counted-as
 use Rattle.transform.proofs.CountedOff.{leap_is}
 
 -- ---- a day of the calendar: its year fits 32 bits, its place lies in the year, and its month is counted off there
@@ -44,10 +42,10 @@ unfolding day_in_year civil_month
 month_in_year d h = let n = shift days_back d in rw (leap_is d h, cycle_day_is n) (sym (month_in_is n))
 
 pub dated_is : (d : ℤ) → in_calendar d ≡ true → {y : ℤ} {m : ℕ} → y ≡ civil_year d → m ≡ civil_month d
-    → On (record { year = to_z w32 (of_z w32 y); month0 = m }) ≡ dated d
+    → Some (record { year = to_z w32 (of_z w32 y); month0 = m }) ≡ dated d
 dated_is d h p q = rw (h, p, q, back (year_fits d h))
 
--- ---- what `grouped` and `dated` say
+-- ---- what `grouped` and `dated` say of a day that has them
 
 pub record Before (d : ℤ) (g : YearGroups) (n : ℕ) : Type 0 where
   pub inside : in_calendar d ≡ true
@@ -56,7 +54,7 @@ pub record Before (d : ℤ) (g : YearGroups) (n : ℕ) : Type 0 where
   pub in_year : n < cond (leap_after g) 366 365
   pub month_is : count_off (month_length (leap_after g)) 12 0 n ≡ civil_month d
 
-pub before_of : (d : ℤ) (g : YearGroups) (n : ℕ) → grouped d ≡ Into g n → Before d g n
+pub before_of : (d : ℤ) (g : YearGroups) (n : ℕ) → grouped d ≡ Some (g, n) → Before d g n
 before_of d g n e =
     let r = grouped_into d g n e in
     record {
@@ -72,18 +70,15 @@ pub record Date (d : ℤ) (k : Civil) : Type 0 where
   pub year_is : k.year ≡ civil_year d
   pub month_is : k.month0 ≡ civil_month d
 
-pub date_of : (d : ℤ) (k : Civil) → dated d ≡ On k → Date d k
+pub date_of : (d : ℤ) (k : Civil) → dated d ≡ Some k → Date d k
 date_of d k e =
     let r = dated_on d k e in
     record { inside = r.0; year_is = rw (← r.1); month_is = rw (← r.1) }
 
-pub counted_outside : (f : ℤ → ℤ) (d : ℤ) → dated d ≡ Outside → counted f d ≡ counted-as.Outside
-counted_outside f d e = rw (dated_outside d e)
-
 -- ---- the counts of a civil date
 
 module _ {d : ℤ} {k : Civil} (e : Date d k) where
-  pub counted_inside : (f : ℤ → ℤ) → counted f d ≡ counted-as.Of (f d)
+  pub counted_inside : (f : ℤ → ℤ) → counted f d ≡ Some (f d)
   counted_inside f = rw e.inside
 
   plain : k.year -ℤ pos 1970 ≡ year_of d

@@ -1,7 +1,6 @@
 -- Lemmas that several proofs of this crate share.
 pub mod CountedOff
 pub mod Dates
-pub mod Division
 pub mod Ends
 pub mod Groups
 pub mod Moments

@@ -1,18 +1,19 @@
--- A moment v in units of which an hour or a day has d: r is what `floor_div` gives for it, in 64 bits. Micros and nanos share this. Assumes nothing.
+-- A moment v in units of which an hour or a day has d: r is what `div_euclid` gives for it, in 64 bits. Micros and nanos share this. Assumes nothing.
 use mathlib.Core.Path.{◌≡◌, ap, ◌∙◌}
 use Prim.Native.Nat.{ℕ, ◌^◌, ◌≤◌, ◌<◌}
 use lib.Dec.{lit≤}
-use lib.IntN.{ℤ}
+use lib.IntN.{ℤ, pos}
 use lib.Signed.{mag}
 use mir.Syntax.{w32, w64}
+use Rattle.std.specs.Int.{int_div_euclid}
 use mir.Val.{SFits, to_z, of_z, hbits}
 use Rattle.values.specs.laws.SignedLaws.{back, ok}
 use Rattle.transform.specs.Floor.{floor_div}
-use Rattle.transform.specs.laws.FloorLaws.{floor_fits, day_fits}
+use Rattle.transform.specs.laws.FloorLaws.{euclid_quotient, floor_fits, day_fits}
 
-module _ (v : ℤ) {r : ℤ} (d : ℕ) (told : mag v < 2 ^ hbits w64) (e : r ≡ floor_div (to_z w64 (of_z w64 v)) d) where
+module _ (v : ℤ) {r : ℤ} (d : ℕ) (told : mag v < 2 ^ hbits w64) (e : r ≡ int_div_euclid (to_z w64 (of_z w64 v)) (pos d)) where
   quotient : r ≡ floor_div v d
-  quotient = e ∙ ap (λ (z : ℤ). floor_div z d) (back {w = w64} (ok v told))
+  quotient = e ∙ euclid_quotient (to_z w64 (of_z w64 v)) d ∙ ap (λ (z : ℤ). floor_div z d) (back {w = w64} (ok v told))
 
   read_back : to_z w64 (of_z w64 r) ≡ r
   read_back = back {w = w64} (rw quotient (floor_fits d (ok v told)))

@@ -29,17 +29,7 @@ pub least : (l : Bool) → 365 ≤ cond l 366 365
 least true = omega arith
 least false = omega arith
 
-most : (l : Bool) → cond l 366 365 ≤ 366
-most true = omega arith
-most false = omega arith
-
 module _ (l : Bool) (day length : ℕ) (p : length ≡ cond l 366 365) (h : day < cond l 366 365) where
-  pub length_bounds : (365 ≤ length) × (length ≤ 366)
-  length_bounds = rw p (least l, most l)
-
-  pub day_small : day < 366
-  day_small = omega (arith, most l)
-
   month_is : by_division length day ≡ count_off (month_length l) 12 0 day
   month_is = rw p (by_division_lem l day h)
 

@@ -1,12 +1,11 @@
 -- What the loop of `prefix_len` has yet to pass: the bytes up to where one code point more would begin than may. Assumes nothing.
-use Prim.Native.Nat.{ℕ, zero, suc, ◌+◌, ◌-◌, ◌<◌}
+use Prim.Native.Nat.{ℕ, zero, suc}
 use native.Mathlib.Omega.{arith}
-use native.Mathlib.Numerals.{add-one, sub-one}
 use mathlib.Core.Bool.{Bool, true, false, cond}
 use mathlib.Core.List.{List, [], ◌∷◌}
 use mathlib.Core.Path.{◌≡◌, refl, ap}
-use lib.ListN.{length, get_or, take, drop}
-use lib.Seq.{drop-cons, take-nil}
+use lib.ListN.{length, take}
+use lib.Seq.{take-nil}
 use Rattle.values.specs.Utf8.{continues, before, code_points, concat}
 use Rattle.transform.specs.Truncate.{first_code_points}
 
@@ -33,20 +32,15 @@ first_passed b (d ∷ ds) w = go (continues d) (code_points (d ∷ ds)) (first_p
     go false cs e zero = refl
     go false cs e (suc w) = ap suc (e w)
 
-pub begin_none : (w : ℕ) (k : ℕ → ℕ) → w ≡ 0 → begin w k ≡ 0
-begin_none w k z = rw z
+-- of bytes from place i on: the first of all begins a code point, whatever it is
+abbrev pub to_pass : ℕ → List ℕ → ℕ → ℕ
+to_pass zero [] w = 0
+to_pass zero (b ∷ bs) w = begin w (passed bs)
+to_pass (suc i) bs w = passed bs w
 
-pub begin_some : (w : ℕ) (k : ℕ → ℕ) → (w ≡ 0 → ⊥) → begin w k ≡ suc (k (w - 1))
-begin_some zero k z = absurd (z refl)
-begin_some (suc w) k z = rw (sub-one (suc w))
-
-pub passed_all : (s : List ℕ) (w : ℕ) → (length s ≡ 0 → ⊥) → (w ≡ 0 → ⊥) → 1 + passed (drop 1 s) (w - 1) ≡ length (first_code_points w s)
-unfolding first_code_points
-passed_all s zero y z = absurd (z refl)
-passed_all [] (suc w) y z = absurd (y refl)
-passed_all (b ∷ bs) (suc w) y z = rw (sub-one (suc w)) (omega (arith, first_passed b bs w))
-
-pub passed_one :
-    (s : List ℕ) (i : ℕ) → i < length s → (w : ℕ) {k : Bool} → k ≡ continues (get_or s i 0) →
-    passed (drop i s) w ≡ cond k (suc (passed (drop (i + 1) s) w)) (begin w (passed (drop (i + 1) s)))
-passed_one s i h w e = rw (e, add-one i) (ap (λ t. passed t w) (drop-cons s i 0 h))
+pub all_passed : (s : List ℕ) (w : ℕ) → to_pass 0 s w ≡ length (first_code_points w s)
+unfolding first_code_points code_points
+all_passed [] zero = refl
+all_passed (b ∷ bs) zero = refl
+all_passed [] (suc w) = refl
+all_passed (b ∷ bs) (suc w) = omega (arith, first_passed b bs w)

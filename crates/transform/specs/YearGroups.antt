@@ -1,13 +1,11 @@
 -- 02, #103: the year by "counting off groups of 400, 100, 4 and 1 years from 1 January of year 1": how many of each lie before the year of day d.
 -- Assumes nothing.
-use Rattle.std.specs.Prelude.{ℕ, ◌+◌, ◌*◌, ◌/◌, ◌%◌, ◌≤◌, true, cond, ◌≡◌, refl, ℤ, pos, negsuc, neg_ℤ, ◌+ℤ◌, ◌-ℤ◌, ◌*ℤ◌}
+use Rattle.std.specs.Prelude.{ℕ, ◌+◌, ◌*◌, ◌/◌, ◌%◌, ◌≤◌, true, cond, Option, Some, None, ◌≡◌, refl, ℤ, pos, negsuc, neg_ℤ, ◌+ℤ◌, ◌-ℤ◌, ◌*ℤ◌}
 use Rattle.transform.specs.Floor.{floor_div, floor_mod}
 use Rattle.transform.specs.Count.{before, count_off}
 use Rattle.transform.specs.Gregorian.{leap, year_length, cycle, cycle_year, cycle_day, year_at}
 use Rattle.transform.specs.Calendar.{first_calendar_day, last_calendar_day, in_calendar, days_back, shift, civil_year}
 use Rattle.transform.specs.declared.calendar.YearGroups.{YearGroups}
-use Rattle.transform.specs.declared.calendar.Grouped.{Grouped}
-use Rattle.transform.specs.declared.calendar.Grouped.TheVariants as grouped-as
 
 -- the years from 1 January of year 1 to 1 January of d's year: 0 in year 1, -1 in year 0
 unfoldable pub years_before : ℤ → ℤ
@@ -50,8 +48,8 @@ CountsMakeYear = (d : ℤ) → in_calendar d ≡ true → year_from (count400 d)
 abbrev pub groups_of : ℤ → YearGroups
 groups_of d = record { n400 = count400 d; n100 = count100 d; n4 = count4 d; n1 = count1 d }
 
-abbrev pub grouped : ℤ → Grouped
-grouped d = cond (in_calendar d) (grouped-as.Into (groups_of d) (day_in_year d)) grouped-as.Outside
+abbrev pub grouped : ℤ → Option (YearGroups × ℕ)
+grouped d = cond (in_calendar d) (Some (groups_of d, day_in_year d)) None
 
 -- ---- worked examples
 

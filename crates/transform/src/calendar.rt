@@ -7,8 +7,6 @@ ghost use Rattle.transform.specs.Calendar.{year_of, month_of};
 ghost use Rattle.transform.specs.YearGroups.{InRange, grouped};
 ghost use Rattle.transform.specs.code.TransformAnswers.{dated, counted, year_after, leap_after};
 
-use crate::floor::floor_div;
-
 // A count of days from 1970-01-01.
 #[derive(Clone, Copy)]
 pub struct Days(pub i32);
@@ -18,20 +16,6 @@ pub struct Days(pub i32);
 pub struct Civil {
     pub year: i32,
     pub month0: u32,
-}
-
-// The civil date of a day: there is none outside the calendar.
-#[derive(Clone, Copy)]
-pub enum Dated {
-    On(Civil),
-    Outside,
-}
-
-// A count of years or months from 1970.
-#[derive(Clone, Copy)]
-pub enum Counted {
-    Of(i32),
-    Outside,
 }
 
 // The groups of 400, 100, 4 and 1 years from 1 January of year 1 to 1 January of a day's year. Before year 1 the first count is negative; the other
@@ -44,12 +28,10 @@ pub struct YearGroups {
     pub n1: u32,
 }
 
-// The groups of years before a day, and its place in the year after them, 0 for 1 January: there is neither outside the calendar.
-#[derive(Clone, Copy)]
-pub enum Grouped {
-    Into(YearGroups, u32),
-    Outside,
-}
+// The ends of the calendar.
+const FIRST_DAY: i32 = -96465292;
+
+const LAST_DAY: i32 = 95026236;
 
 // Days from 1 January of year 1 to 1 January 1970.
 const DAYS_TO_1970: i64 = 719162;
@@ -64,23 +46,13 @@ const DAYS_PER_4_YEARS: u32 = 1461;
 
 const DAYS_PER_YEAR: u32 = 365;
 
-// How many groups of so many days lie before a day, held at `most`: the group after these may have a day more. The bound keeps the product in 32 bits.
-fn groups_before(day: u32, size: u32, most: u32) -> u32
-    requires size_nonzero { 0 < size }
-    requires size_bound { most * size < 1000000 }
-    ensures { result ≡ min (day / size) most }
-{
-    if day < most * size { day / size } else { most }
-}
-
 impl YearGroups {
     // The year after the groups. The sum fits 64 bits whatever they are.
     pub fn year(self) -> i64
         ensures { result ≡ year_after self }
     {
-        let n400 = self.n400 as i64;
-        let rest = self.n100 as u64 * 100 + self.n4 as u64 * 4 + self.n1 as u64;
-        1 + n400 * 400 + rest as i64
+        let rest = u64::from(self.n100) * 100 + u64::from(self.n4) * 4 + u64::from(self.n1);
+        1 + i64::from(self.n400) * 400 + rest as i64
     }
 
     // Whether that is a leap year: the last of 4 years, but not of 100, unless of 400. `&` and `|` make all three tests, without a branch that a
@@ -112,68 +84,53 @@ fn month_in(day: u32, leap: bool) -> u32
     }
 }
 
+// Outside the calendar a day has none of these.
 impl Days {
-    // The groups of years before the day's own, the largest counted off first.
+    // The groups of years before the day's own, the largest counted off first, and its place in the year after them, 0 for 1 January.
     #[tactic(auto, using(crate::proofs::Ends::ends_before, crate::proofs::Ends::ends_after))]
-    pub fn year_groups(self) -> Grouped
+    pub fn year_groups(self) -> Option<(YearGroups, u32)>
         ensures { result ≡ grouped self.0 }
     {
         let d = self.0;
-        if d < -96465292 {
-            return Grouped::Outside;
+        if !(FIRST_DAY..=LAST_DAY).contains(&d) {
+            return None;
         }
-        if 95026236 < d {
-            return Grouped::Outside;
-        }
-        let days = d as i64 + DAYS_TO_1970;
-        let n400 = floor_div(days, DAYS_PER_400_YEARS);
-        let in_400 = (days - n400 * DAYS_PER_400_YEARS) as u32;
-        let n100 = groups_before(in_400, DAYS_PER_100_YEARS, 3);
+        let days = i64::from(d) + DAYS_TO_1970;
+        let n400 = days.div_euclid(DAYS_PER_400_YEARS) as i32;
+        let in_400 = days.rem_euclid(DAYS_PER_400_YEARS) as u32;
+        let n100 = (in_400 / DAYS_PER_100_YEARS).min(3);
         let in_100 = in_400 - n100 * DAYS_PER_100_YEARS;
         let n4 = in_100 / DAYS_PER_4_YEARS;
         let in_4 = in_100 % DAYS_PER_4_YEARS;
-        let n1 = groups_before(in_4, DAYS_PER_YEAR, 3);
+        let n1 = (in_4 / DAYS_PER_YEAR).min(3);
         let day = in_4 - n1 * DAYS_PER_YEAR;
-        let groups = YearGroups {
-            n400: n400 as i32,
-            n100: n100,
-            n4: n4,
-            n1: n1,
-        };
-        Grouped::Into(groups, day)
+        Some((YearGroups { n400, n100, n4, n1 }, day))
     }
 
     // The day's year, and the month in it.
-    pub fn civil(self) -> Dated
+    pub fn civil(self) -> Option<Civil>
         ensures { result ≡ dated self.0 }
     {
-        let Grouped::Into(groups, day) = self.year_groups() else {
-            return Dated::Outside;
-        };
-        let month = month_in(day, groups.leap());
-        Dated::On(Civil {
+        let (groups, day) = self.year_groups()?;
+        let month0 = month_in(day, groups.leap());
+        Some(Civil {
             year: groups.year() as i32,
-            month0: month,
+            month0,
         })
     }
 
     // Iceberg's Year.
-    pub fn year(self) -> Counted
+    pub fn year(self) -> Option<i32>
         ensures { result ≡ counted year_of self.0 }
     {
-        let Dated::On(date) = self.civil() else {
-            return Counted::Outside;
-        };
-        Counted::Of(date.year - 1970)
+        Some(self.civil()?.year - 1970)
     }
 
     // Iceberg's Month.
-    pub fn month(self) -> Counted
+    pub fn month(self) -> Option<i32>
         ensures { result ≡ counted month_of self.0 }
     {
-        let Dated::On(date) = self.civil() else {
-            return Counted::Outside;
-        };
-        Counted::Of((date.year - 1970) * 12 + date.month0 as i32)
+        let date = self.civil()?;
+        Some((date.year - 1970) * 12 + date.month0 as i32)
     }
 }

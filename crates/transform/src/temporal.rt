@@ -4,7 +4,6 @@ ghost use Rattle.transform.specs.Floor.{floor_div};
 ghost use Rattle.transform.specs.Temporal.{unit_of, hours_per_day, micros_per_hour, nanos_per_hour};
 
 use crate::calendar::Days;
-use crate::floor::floor_div;
 use values::datatypes::PrimitiveType;
 
 const MICROSECONDS_PER_HOUR: i64 = 3_600_000_000;
@@ -28,18 +27,15 @@ pub fn unit_of(column: PrimitiveType) -> TimeUnit
     ensures { result ≡ unit_of column }
 {
     match column {
-        PrimitiveType::Int => TimeUnit::Neither,
-        PrimitiveType::Long => TimeUnit::Neither,
         PrimitiveType::Date => TimeUnit::Day,
-        PrimitiveType::Time => TimeUnit::Neither,
-        PrimitiveType::Timestamp => TimeUnit::Microsecond,
-        PrimitiveType::Timestamptz => TimeUnit::Microsecond,
-        PrimitiveType::TimestampNs => TimeUnit::Nanosecond,
-        PrimitiveType::TimestamptzNs => TimeUnit::Nanosecond,
-        PrimitiveType::String => TimeUnit::Neither,
-        PrimitiveType::Binary => TimeUnit::Neither,
+        PrimitiveType::Timestamp | PrimitiveType::Timestamptz => TimeUnit::Microsecond,
+        PrimitiveType::TimestampNs | PrimitiveType::TimestamptzNs => TimeUnit::Nanosecond,
+        _ => TimeUnit::Neither,
     }
 }
+
+// The two counts are types of their own, so that neither is taken for the other. One type with the unit as a parameter would ask each caller that
+// the unit is positive, and its methods would be these two lines.
 
 // A count of microseconds from 1970-01-01.
 #[derive(Clone, Copy)]
@@ -50,33 +46,33 @@ pub struct Micros(pub i64);
 pub struct Nanos(pub i64);
 
 impl Micros {
+    #[tactic(auto, using(crate::proofs::Moments::moments))]
     pub fn day(self) -> Days
         ensures { result.0 ≡ floor_div self.0 (hours_per_day * micros_per_hour) }
     {
-        let v = self.0;
-        Days(floor_div(v, MICROSECONDS_PER_DAY) as i32)
+        Days(self.0.div_euclid(MICROSECONDS_PER_DAY) as i32)
     }
 
+    #[tactic(auto, using(crate::proofs::Moments::moments))]
     pub fn hour(self) -> i64
         ensures { result ≡ floor_div self.0 micros_per_hour }
     {
-        let v = self.0;
-        floor_div(v, MICROSECONDS_PER_HOUR)
+        self.0.div_euclid(MICROSECONDS_PER_HOUR)
     }
 }
 
 impl Nanos {
+    #[tactic(auto, using(crate::proofs::Moments::moments))]
     pub fn day(self) -> Days
         ensures { result.0 ≡ floor_div self.0 (hours_per_day * nanos_per_hour) }
     {
-        let v = self.0;
-        Days(floor_div(v, NANOSECONDS_PER_DAY) as i32)
+        Days(self.0.div_euclid(NANOSECONDS_PER_DAY) as i32)
     }
 
+    #[tactic(auto, using(crate::proofs::Moments::moments))]
     pub fn hour(self) -> i64
         ensures { result ≡ floor_div self.0 nanos_per_hour }
     {
-        let v = self.0;
-        floor_div(v, NANOSECONDS_PER_HOUR)
+        self.0.div_euclid(NANOSECONDS_PER_HOUR)
     }
 }

@@ -37,6 +37,6 @@ ascii_bytes (suc n) at s h k e =
     ∙ ascii_bytes n (suc at) s h (omega arith) c.1
     ∙ sym (ap utf8 (drop-cons s at 0 (omega arith)) ∙ ascii_first b (drop (suc at) s) c.0)
 
-pub ascii_word : (at : ℕ) (s : List ℕ) → AllBytes s → at + 8 ≤ length s → bit_and (word at 8 s) 0x8080808080808080 ≡ 0
-    → utf8 (drop (at + 8) s) ≡ utf8 (drop at s)
-ascii_word = ascii_bytes 8
+pub ascii_word : (i : ℕ) (s : List ℕ) → AllBytes s → 8 * i + 8 ≤ length s → bit_and (word (8 * i) 8 s) 0x8080808080808080 ≡ 0
+    → utf8 (drop (8 * (i + 1)) s) ≡ utf8 (drop (8 * i) s)
+ascii_word i s h k e = let next : 8 * (i + 1) ≡ 8 * i + 8 = omega arith in rw next (ascii_bytes 8 (8 * i) s h k e)

@@ -1,7 +1,7 @@
 -- How values are ordered, and how a byte string begins. Assumes nothing.
 use Rattle.std.specs.Prelude.{◌≡◌, ℕ, Bool, true, false, cond, ◌&&◌, List, [], ◌∷◌, ℤ, ◌==◌, int_lt, nat_lt, refl}
-use Rattle.values.specs.declared.order.Ordering.{Ordering}
-use Rattle.values.specs.declared.order.Ordering.TheVariants.{Less, Equal, Greater}
+use Rattle.std.specs.declared.cmp.Ordering.{Ordering}
+use Rattle.std.specs.declared.cmp.Ordering.TheVariants.{Less, Equal, Greater}
 
 -- 01: "numbers signed"
 unfoldable pub compare_numbers : ℤ → ℤ → Ordering

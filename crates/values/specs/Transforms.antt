@@ -1,6 +1,6 @@
 -- The transforms: their numbers, and the width that stands beside them. Assumes nothing.
-use Rattle.std.specs.Prelude.{ℕ, List, [], ◌∷◌, ◌==◌}
-use Rattle.values.specs.Outcomes.{Res, ok, need, ◌>>=◌, ◌>>◌}
+use Rattle.std.specs.Prelude.{ℕ, List, [], ◌∷◌, ◌==◌, Ok}
+use Rattle.values.specs.Outcomes.{Res, need, ◌>>=◌, ◌>>◌}
 use Rattle.values.specs.Numbered.{Numbered, ◌is◌, find}
 use Rattle.values.specs.declared.error.ErrorKind.TheVariants.{Malformed}
 use Rattle.values.specs.declared.transform.Transform.{Transform}
@@ -27,4 +27,4 @@ unfoldable pub transform_of : ℕ → ℕ → Res Transform
 transform_of number width = do
   transform ← find (transforms width) number
   need (width == width_of transform) Malformed
-  ok transform
+  Ok transform

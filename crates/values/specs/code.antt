@@ -1,4 +1,5 @@
 -- What the enums and the arrays of the code of `values` mean, as the definitions have it.
-pub mod TypeResults
+pub mod ByteTypes
+pub mod Lent
 pub mod Utf8Rests
 pub mod Places

@@ -1,18 +1,21 @@
 -- The laws about the definitions of `values`.
 pub mod TestLaws
-pub mod TypeResultLaws
 pub mod IntLaws
 pub mod SignedLaws
 pub mod RangeLaws
 pub mod TypesLaws
 pub mod WordLaws
+pub mod WordPartLaws
 pub mod FieldLaws
 pub mod CharacterLaws
 pub mod CodePointLaws
 pub mod Utf8Laws
+pub mod CodePointCountLaws
 pub mod Utf8StepLaws
+pub mod NextByteLaws
 pub mod OrderLaws
 pub mod PrefixLaws
+pub mod ByteOrderLaws
 pub mod ConvexLaws
 pub mod SomeLaws
 pub mod AscendingLaws

@@ -2,10 +2,10 @@
 ghost use Rattle.std.specs.Prelude.{◌≡◌};
 ghost use Rattle.values.specs.Outcomes.{error_number};
 
-#[derive(Clone, Copy)]
+#[derive(Clone, Copy, PartialEq, Eq)]
 pub enum ErrorKind {
     // The sheet or the value is against the rules of its format.
-    Malformed,
+    Malformed = 3,
     // A String is not UTF-8.
     NotUtf8,
     // `result_type` has no answer for the transform and the type.
@@ -24,22 +24,11 @@ pub enum ErrorKind {
     DifferentTypes,
 }
 
-impl ErrorKind {
-    // The number of the refusal in document 01's table, which 02 goes on with.
-    pub fn number(self) -> u32
-        ensures { result ≡ error_number self }
-    {
-        match self {
-            ErrorKind::Malformed => 3,
-            ErrorKind::NotUtf8 => 4,
-            ErrorKind::NoResultType => 5,
-            ErrorKind::DataInvalid => 6,
-            ErrorKind::FeatureUnsupported => 7,
-            ErrorKind::Overflow => 8,
-            ErrorKind::OutsideGrammar => 9,
-            ErrorKind::TooLarge => 10,
-            ErrorKind::WrongSummary => 11,
-            ErrorKind::DifferentTypes => 12,
-        }
+// The number of the refusal in document 01's table, which 02 goes on with.
+impl From<ErrorKind> for u32 {
+    ghost from_gives = { λ e n. n ≡ error_number e };
+
+    fn from(e: ErrorKind) -> u32 {
+        e as u32
     }
 }

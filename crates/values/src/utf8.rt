@@ -1,7 +1,7 @@
 // UTF-8: whether bytes are it, and how many code points they are.
-ghost use Rattle.std.specs.Prelude.{◌≡◌, ℕ, ◌≤◌, false, List, ◌∷◌, length, drop};
-ghost use Rattle.values.specs.Utf8.{continues, code_points, utf8};
-ghost use Rattle.values.specs.code.Utf8Rests.{awaited};
+ghost use Rattle.std.specs.Prelude.{◌≡◌, ◌<◌, ◌≤◌, not, List, [], ◌∷◌, length, drop, count_by, option_copied, IfSome};
+ghost use Rattle.values.specs.Utf8.{Range, ◌to◌, tail, continues, code_points, utf8};
+ghost use Rattle.values.specs.code.Utf8Rests.{follows, follows_on, lowest_second, highest_second};
 
 use crate::words::u64_at;
 
@@ -9,71 +9,76 @@ use crate::words::u64_at;
 pub fn continues_code_point(b: u8) -> bool
     ensures { result ≡ continues b }
 {
-    if b < 0x80 { false } else { b <= 0xBF }
+    matches!(b, 0x80..=0xBF)
 }
 
-// What a code point still has: so many bytes, the next one from the second number to the third, and the others any continuation.
-#[derive(Clone, Copy)]
-struct Rest(usize, u8, u8);
-
-// Nothing may follow: a byte from 1 to 0 is none.
-fn nothing() -> Rest
-    ensures { (t : List ℕ) → awaited result t ≡ false }
+// What is left after a byte from `low` to `high`; None where another byte or none comes first.
+fn after_one(s: &[u8], low: u8, high: u8) -> Option<&[u8]>
+    ensures awaited { (rs : List Range) → follows (low to high ∷ rs) s.now ≡ follows_on rs (option_copied result) }
+    ensures shorter { IfSome result (λ t. length t.now < length s.now) }
 {
-    Rest(1, 1, 0)
+    match s {
+        [b, later @ ..] if low <= *b && *b <= high => Some(later),
+        _ => None,
+    }
 }
 
-// What may follow a first byte.
-fn after_first(b: u8) -> Rest
-    ensures { (t : List ℕ) → utf8 (b ∷ t) ≡ awaited result t }
+// The same, with one byte more that goes on with the code point.
+fn after_two(s: &[u8], low: u8, high: u8) -> Option<&[u8]>
+    ensures awaited { (rs : List Range) → follows (low to high ∷ tail ∷ rs) s.now ≡ follows_on rs (option_copied result) }
+    ensures shorter { IfSome result (λ t. length t.now < length s.now) }
 {
-    if b < 0x80 {
-        return Rest(0, 0x80, 0xBF);
-    }
-    if b < 0xC2 {
-        return nothing();
-    }
-    if b <= 0xDF {
-        return Rest(1, 0x80, 0xBF);
-    }
-    if b == 0xE0 {
-        return Rest(2, 0xA0, 0xBF);
-    }
-    if b <= 0xEC {
-        return Rest(2, 0x80, 0xBF);
-    }
-    if b == 0xED {
-        return Rest(2, 0x80, 0x9F);
-    }
-    if b <= 0xEF {
-        return Rest(2, 0x80, 0xBF);
-    }
-    if b == 0xF0 {
-        return Rest(3, 0x90, 0xBF);
-    }
-    if b <= 0xF3 {
-        return Rest(3, 0x80, 0xBF);
-    }
-    if b == 0xF4 {
-        return Rest(3, 0x80, 0x8F);
-    }
-    nothing()
+    after_one(after_one(s, low, high)?, 0x80, 0xBF)
 }
 
-// What may follow one byte more.
-fn after_byte(q: Rest, b: u8) -> Rest
-    ensures { (t : List ℕ) → awaited q (b ∷ t) ≡ awaited result t }
+// And with two.
+fn after_three(s: &[u8], low: u8, high: u8) -> Option<&[u8]>
+    ensures awaited { (rs : List Range) → follows (low to high ∷ tail ∷ tail ∷ rs) s.now ≡ follows_on rs (option_copied result) }
+    ensures shorter { IfSome result (λ t. length t.now < length s.now) }
 {
-    if q.0 == 0 {
-        return after_first(b);
+    after_one(after_two(s, low, high)?, 0x80, 0xBF)
+}
+
+// The bytes between which the second stands, as values and not as arms that take a second byte each: of those LLVM makes a table of jumps, which is slower.
+fn lowest_second(first: u8) -> u8
+    ensures { result ≡ lowest_second first }
+{
+    match first {
+        0xE0 => 0xA0,
+        0xF0 => 0x90,
+        _ => 0x80,
     }
-    if b < q.1 {
-        return nothing();
+}
+
+fn highest_second(first: u8) -> u8
+    ensures { result ≡ highest_second first }
+{
+    match first {
+        0xED => 0x9F,
+        0xF4 => 0x8F,
+        _ => 0xBF,
     }
-    if q.2 < b {
-        return nothing();
+}
+
+// What is left after the code point of a first byte and some of the bytes after it; None where these are none.
+#[tactic(auto, using(crate::specs::laws::Utf8StepLaws::first_bytes))]
+fn after_code_point(first: u8, later: &[u8]) -> Option<&[u8]>
+    ensures awaited { utf8 (first ∷ later.now) ≡ follows_on [] (option_copied result) }
+    ensures shorter { IfSome result (λ t. length t.now ≤ length later.now) }
+{
+    // ASCII is told apart before the range of the second byte is asked for: as an arm of the match it would come after that, and be slower.
+    if first < 0x80 {
+        return Some(later);
     }
-    Rest(q.0 - 1, 0x80, 0xBF)
+    let low = lowest_second(first);
+    let high = highest_second(first);
+    match first {
+        ..=0xC1 => None,
+        ..=0xDF => after_one(later, low, high),
+        ..=0xEF => after_two(later, low, high),
+        ..=0xF4 => after_three(later, low, high),
+        _ => None,
+    }
 }
 
 // The highest bit of each byte of a word, which no byte of ASCII has.
@@ -84,48 +89,49 @@ fn ascii_words(s: &[u8]) -> usize
     ensures upper_bound { result ≤ length s.now }
     ensures s_value { utf8 (drop result s.now) ≡ utf8 s.now }
 {
-    let mut i = 0;
-    while s.len() - i >= 8 {
-        if u64_at(s, i) & HIGHEST_BITS != 0 {
-            return i;
+    for i in 0..s.len() / 8 {
+        if u64_at(s, 8 * i) & HIGHEST_BITS != 0 {
+            return 8 * i;
         }
-        i += 8;
     }
-    i
+    s.len() / 8 * 8
 }
 
-// Whether bytes are UTF-8: read byte by byte after the words that are ASCII, up to the first that may not stand where it does.
+// Whether bytes are UTF-8: read code point by code point after the words that are ASCII.
+#[tactic(auto, using(crate::specs::laws::Utf8StepLaws::nothing_left))]
 pub fn is_utf8(s: &[u8]) -> bool
     ensures { result ≡ utf8 s.now }
 {
-    let mut q = Rest(0, 0x80, 0xBF);
-    let mut i = ascii_words(s);
-    while i < s.len() {
-        q = after_byte(q, s[i]);
-        if q.0 != 0 {
-            if q.2 < q.1 {
-                return false;
-            }
-        }
-        i += 1;
+    let mut rest = &s[ascii_words(s)..];
+    while let [first, later @ ..] = rest {
+        let Some(next) = after_code_point(*first, later) else {
+            return false;
+        };
+        rest = next;
     }
-    q.0 == 0
+    true
 }
 
-// How many code points s has: one begins at the first byte, and at each later byte that continues none.
+// How many bytes go on with no code point. A loop, since LLVM makes vector code of it, and none of `filter` with `count`.
+fn count_starts(s: &[u8]) -> usize
+    ensures { result ≡ count_by (λ b. not (continues b)) s.now }
+{
+    let mut n = 0;
+    for b in s {
+        if !continues_code_point(*b) {
+            n += 1;
+        }
+    }
+    n
+}
+
+// How many code points s has: one begins at the first byte, and at each later byte that goes on with none.
+#[tactic(auto, using(crate::specs::laws::Utf8Laws::part_counts))]
 pub fn count_code_points(s: &[u8]) -> usize
     ensures { result ≡ length (code_points s.now) }
 {
-    if s.len() == 0 {
-        return 0;
+    match s {
+        [] => 0,
+        [_, later @ ..] => 1 + count_starts(later),
     }
-    let mut n: usize = 1;
-    let mut i: usize = 1;
-    while i < s.len() {
-        if !continues_code_point(s[i]) {
-            n += 1;
-        }
-        i += 1;
-    }
-    n
 }

@@ -1,8 +1,7 @@
 -- Examples of what a leaf and a file's summary are answered: of 4, of 11, and of the orders of types. An edit of `judged` breaks them. Assumes nothing.
-use Rattle.std.specs.Prelude.{ℕ, false, List, [], ◌∷◌, ◌≡◌, refl, pos, negsuc}
+use Rattle.std.specs.Prelude.{ℕ, false, List, [], ◌∷◌, ◌≡◌, refl, pos, negsuc, Ok, Err}
 use Rattle.values.specs.Characters.{ascii}
 use Rattle.values.specs.Order.{compare_numbers, compare_bytes}
-use Rattle.values.specs.Outcomes.{ok, err}
 use Rattle.values.specs.Utf8.{is_code_point, code_points, utf8}
 use Rattle.values.specs.Words.{signed_bytes}
 use Rattle.values.specs.declared.datatypes.PrimitiveType.{PrimitiveType}
@@ -24,14 +23,14 @@ abbrev present : Predicate (List ℕ)
 present = unary not_null
 
 -- an end is looked at by the summary's own type: one that is not UTF-8 is 4, and only then is its type 11
-by_its_own_type : (judged Int present (file_of String (0xFF ∷ []) (0xFF ∷ [])) ≡ err NotUtf8)
-    × (judged Int present (file_of String (ascii "a") (ascii "b")) ≡ err WrongSummary)
-    × (judged Binary present (file_of Binary (0xFF ∷ []) (0xFF ∷ [])) ≡ ok Read)
+by_its_own_type : (judged Int present (file_of String (0xFF ∷ []) (0xFF ∷ [])) ≡ Err NotUtf8)
+    × (judged Int present (file_of String (ascii "a") (ascii "b")) ≡ Err WrongSummary)
+    × (judged Binary present (file_of Binary (0xFF ∷ []) (0xFF ∷ [])) ≡ Ok Read)
 unfolding judged text_verdict compare_bytes utf8 code_points is_code_point
 by_its_own_type = (refl, refl, refl)
 
 -- numbers are signed: from -1 up to 0 is in order, as byte strings it is not
-in_order : (judged Int present (file_of Int (signed_bytes 4 (negsuc 0)) (signed_bytes 4 (pos 0))) ≡ ok Whole)
-    × (judged Binary present (file_of Binary (signed_bytes 4 (negsuc 0)) (signed_bytes 4 (pos 0))) ≡ err WrongSummary)
+in_order : (judged Int present (file_of Int (signed_bytes 4 (negsuc 0)) (signed_bytes 4 (pos 0))) ≡ Ok Whole)
+    × (judged Binary present (file_of Binary (signed_bytes 4 (negsuc 0)) (signed_bytes 4 (pos 0))) ≡ Err WrongSummary)
 unfolding judged number_verdict between compare_numbers compare_bytes
 in_order = (refl, refl)

@@ -1,8 +1,8 @@
 -- What a leaf and a summary are answered, as four checks in their order and a verdict. Assumes nothing.
-use Rattle.std.specs.Prelude.{ℕ, Bool, true, not, ◌||◌, List, ◌≡◌}
+use Rattle.std.specs.Prelude.{ℕ, Bool, true, not, ◌||◌, List, ◌≡◌, Ok}
 use Rattle.std.proofs.Common.{sym, ◌∙◌}
 use Rattle.std.proofs.Math.Path.{ap}
-use Rattle.values.specs.Outcomes.{Res, ok, need, ◌>>◌}
+use Rattle.values.specs.Outcomes.{Res, need, ◌>>◌}
 use Rattle.values.specs.laws.OutcomeLaws.{ok_inj, need_read, passed}
 use Rattle.values.specs.Types.{same_type}
 use Rattle.values.specs.laws.TypesLaws.{same_type_lem}
@@ -27,7 +27,7 @@ module _ (column : PrimitiveType) (leaf : Predicate (List ℕ)) (file : Summary)
   after_utf8 literals ends = do
     need (same_type column file.column) WrongSummary
     need (ordered (compare_in column) ends) WrongSummary
-    ok (verdict_in column literals ends file.has_missing)
+    Ok (verdict_in column literals ends file.has_missing)
 
   pub judged_checks : judged column leaf file ≡ (need literals_encoded NotUtf8 >> (need (ends_encoded file.column file.ends) NotUtf8 >> after_utf8 leaf file.ends))
   unfolding judged
@@ -43,7 +43,7 @@ pub record JudgedAs (column : PrimitiveType) (leaf : Predicate (List ℕ)) (file
   pub in_order : ordered (compare_in column) file.ends ≡ true
   pub is : verdict_in column leaf file.ends file.has_missing ≡ x
 
-pub judged_as : (column : PrimitiveType) (leaf : Predicate (List ℕ)) (file : Summary) (x : Verdict) → judged column leaf file ≡ ok x → JudgedAs column leaf file x
+pub judged_as : (column : PrimitiveType) (leaf : Predicate (List ℕ)) (file : Summary) (x : Verdict) → judged column leaf file ≡ Ok x → JudgedAs column leaf file x
 judged_as column leaf file x e =
     let literals = passed (literals_encoded column leaf file) NotUtf8 _ (sym (judged_checks column leaf file) ∙ e) in
     let ends = passed (ends_encoded file.column file.ends) NotUtf8 _ literals.1 in

@@ -1,5 +1,4 @@
--- Examples and laws of `judged`, which an edit of it breaks, and lemmas that several proofs share.
+-- Examples and laws of `judged`, which an edit of it breaks.
 pub mod JudgedExamples
 pub mod JudgedLaws
-pub mod FileArms
-pub mod JudgeArms
+pub mod SheetChecks

@@ -1,6 +1,6 @@
 -- What a leaf and a file's summary are answered: 4, then 11, then the verdict. Literals and ends are still the contents of their records. Assumes nothing.
-use Rattle.std.specs.Prelude.{ℕ, Bool, List}
-use Rattle.values.specs.Outcomes.{Res, ok, need, ◌>>=◌, ◌>>◌}
+use Rattle.std.specs.Prelude.{ℕ, Bool, List, Ok}
+use Rattle.values.specs.Outcomes.{Res, need, ◌>>=◌, ◌>>◌}
 use Rattle.values.specs.Types.{layout, same_type}
 use Rattle.values.specs.declared.datatypes.PrimitiveType.{PrimitiveType}
 use Rattle.values.specs.declared.error.ErrorKind.TheVariants.{WrongSummary}
@@ -28,4 +28,4 @@ judged column leaf file = do
   ends ← read_ends (read_bytes file.column) file.ends
   need (same_type column file.column) WrongSummary
   need (ordered (compare_in column) ends) WrongSummary
-  ok (verdict_in column literals ends file.has_missing)
+  Ok (verdict_in column literals ends file.has_missing)

@@ -1,2 +1,2 @@
--- What the enums of the code of `verdict` mean, as the definitions have it.
+-- What the code of `verdict` goes by, as the definitions have it.
 pub mod VerdictAnswers

@@ -4,8 +4,6 @@ ghost use Rattle.verdict.specs.Verdicts.{verdict_number};
 ghost use Rattle.verdict.specs.code.VerdictAnswers.{verdict_by};
 ghost use Rattle.verdict.specs.declared.verdict.Verdict.TheVariants.{Skip, Read};
 
-use values::error::ErrorKind;
-
 #[derive(Clone, Copy)]
 pub enum Verdict {
     // No value that the file may hold meets the predicate.
@@ -16,22 +14,16 @@ pub enum Verdict {
     Whole,
 }
 
-// A verdict, or why there is none.
-#[derive(Clone, Copy)]
-pub enum VerdictResult {
-    Ok(Verdict),
-    Err(ErrorKind),
-}
-
 impl Verdict {
     // By whether some value meets the predicate, and whether some does not.
     pub fn of(met: bool, unmet: bool) -> Verdict
         ensures { result ≡ verdict_by met unmet }
     {
-        if !met {
-            return Verdict::Skip;
+        match (met, unmet) {
+            (true, true) => Verdict::Read,
+            (true, false) => Verdict::Whole,
+            (false, _) => Verdict::Skip,
         }
-        if unmet { Verdict::Read } else { Verdict::Whole }
     }
 
     // By whether some value may meet the predicate, where it is not known that all do.
@@ -39,19 +31,18 @@ impl Verdict {
         ensures { result ≡ cond may_meet Read Skip }
     {
         if may_meet {
-            return Verdict::Read;
+            Verdict::Read
+        } else {
+            Verdict::Skip
         }
-        Verdict::Skip
     }
+}
 
-    // Document 02's number of the verdict.
-    pub fn number(self) -> u8
-        ensures { result ≡ verdict_number self }
-    {
-        match self {
-            Verdict::Skip => 0,
-            Verdict::Read => 1,
-            Verdict::Whole => 2,
-        }
+// Document 02's number of the verdict.
+impl From<Verdict> for u8 {
+    ghost from_gives = { λ verdict n. n ≡ verdict_number verdict };
+
+    fn from(verdict: Verdict) -> u8 {
+        verdict as u8
     }
 }

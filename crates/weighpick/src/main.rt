@@ -3,13 +3,11 @@
 
 use input::read_full;
 use std::io;
-use text::program::{INPUT_SIZE, OUTPUT_SIZE, print_sheet};
+use text::program::{INPUT_SIZE, print_sheet};
 
 // An input that is longer than the buffer is cut, and answered 3 as all of it would be.
 fn main(rt: HostRuntime) -> io::Result<()> {
     let mut sheet = [0; INPUT_SIZE];
     let n = read_full(&mut rt.stdin(), &mut sheet)?;
-    let mut out = [0; OUTPUT_SIZE];
-    let length = print_sheet(&sheet[..n], &mut out);
-    rt.write_all(&out[..length])
+    rt.write_all(print_sheet(&sheet[..n]).as_slice())
 }

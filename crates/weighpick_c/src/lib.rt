@@ -1,11 +1,11 @@
 // The routines under C's names, for programs in other languages: document 01's number is returned, and the count of bytes written, where there is one, is set in
-// every case.
+// every case. The C interface has a name for each question, so routines that differ in their question alone stand side by side.
 #![tactic(auto)]
 
 ghost use Rattle.std.specs.Prelude.{◌≡◌};
 ghost use Rattle.projection.specs.declared.question.Question.TheVariants.{Inclusive, Strict, Older};
 ghost use Rattle.answers.specs.Answers.{answer_number, answer_count};
-ghost use Rattle.meets.specs.Tested.{held_as, held_number};
+ghost use Rattle.meets.specs.Tested.{held_number};
 ghost use Rattle.api.specs.HoldsTest.{holds_test};
 ghost use Rattle.api.specs.Routines.{project_answer, project_leaves, transform_answer, transform_leaves};
 ghost use Rattle.files.specs.TestSummary.{test_answer, test_leaves};
@@ -14,13 +14,14 @@ ghost use Rattle.pool.specs.Handed.{pool_number, told_lowest, told_highest, told
 ghost use Rattle.pool.specs.Pooling as pooling;
 ghost use Rattle.weighpick_c.specs.Version.{version};
 
-use answers::answer::Answer;
+use answers::answer::{Answer, answer_count, answer_number};
 use api::holds::holds;
 use api::literal::transform_literal;
 use api::project::{project, strict_project, strict_project_older};
 use files::files::test_summary;
 use filter::filter::{filter_project, filter_row, filter_strict_project};
-use pool::pool::{PoolResult, pool};
+use meets::held::held_number;
+use pool::pool::pool;
 
 // Tells which library this is, for a caller that was built with another one's header.
 #[unsafe(no_mangle)]
@@ -35,8 +36,8 @@ fn told(answer: Answer, count: &mut u64) -> u32
     ensures number { result ≡ answer_number answer }
     ensures written { count.new ≡ answer_count answer }
 {
-    *count = answer.count() as u64;
-    answer.number()
+    *count = answer_count(answer) as u64;
+    answer_number(answer)
 }
 
 #[unsafe(no_mangle)]
@@ -91,9 +92,9 @@ pub extern "C" fn weighpick_transform(
 
 #[unsafe(no_mangle)]
 pub extern "C" fn weighpick_holds(sheet: &[u8], value: &[u8]) -> u32
-    ensures { result ≡ held_number (held_as (holds_test sheet.now value.now)) }
+    ensures { result ≡ held_number (holds_test sheet.now value.now) }
 {
-    holds(sheet, value).number()
+    held_number(holds(sheet, value))
 }
 
 #[unsafe(no_mangle)]
@@ -125,35 +126,33 @@ pub extern "C" fn weighpick_pool(
     ensures flag { flag.new ≡ told_flag (pooling.pool first.now second.now) flag.old }
 {
     match pool(first, second) {
-        PoolResult::Ok(pooled) => {
-            let low = pooled.lowest;
-            let high = pooled.highest;
-            *lowest = low.number();
-            *highest = high.number();
-            *flag = pooled.flag as u64;
+        Ok(pooled) => {
+            *lowest = u64::from(pooled.lowest);
+            *highest = u64::from(pooled.highest);
+            *flag = u64::from(pooled.flag);
             0
         }
-        PoolResult::Err(e) => e.number(),
+        Err(e) => u32::from(e),
     }
 }
 
 #[unsafe(no_mangle)]
 pub extern "C" fn weighpick_filter_row(columns: &[u8], text: &[u8], values: &[u8]) -> u32
-    ensures { result ≡ held_number (held_as (filter_row columns.now text.now values.now)) }
+    ensures { result ≡ held_number (filter_row columns.now text.now values.now) }
 {
-    filter_row(columns, text, values).number()
+    held_number(filter_row(columns, text, values))
 }
 
 #[unsafe(no_mangle)]
 pub extern "C" fn weighpick_filter_project(columns: &[u8], text: &[u8], values: &[u8]) -> u32
-    ensures { result ≡ held_number (held_as (filter_parts Inclusive columns.now text.now values.now)) }
+    ensures { result ≡ held_number (filter_parts Inclusive columns.now text.now values.now) }
 {
-    filter_project(columns, text, values).number()
+    held_number(filter_project(columns, text, values))
 }
 
 #[unsafe(no_mangle)]
 pub extern "C" fn weighpick_filter_strict_project(columns: &[u8], text: &[u8], values: &[u8]) -> u32
-    ensures { result ≡ held_number (held_as (filter_parts Strict columns.now text.now values.now)) }
+    ensures { result ≡ held_number (filter_parts Strict columns.now text.now values.now) }
 {
-    filter_strict_project(columns, text, values).number()
+    held_number(filter_strict_project(columns, text, values))
 }

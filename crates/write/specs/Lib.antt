@@ -1,4 +1,3 @@
 -- The definitions of `write`, in the order in which to read them.
 pub mod Written
-pub mod code
 pub mod laws

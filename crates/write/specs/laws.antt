@@ -2,4 +2,6 @@
 pub mod RoundTripLaws
 pub mod WrittenLaws
 pub mod WriteLaws
+pub mod LiteralWriteLaws
 pub mod AnswerSheetLaws
+pub mod FirstLiteralsLaws

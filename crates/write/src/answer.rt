@@ -1,17 +1,17 @@
 // Answer sheets, whole: a head and its literals in records 1, 2, ..
-ghost use Rattle.std.specs.Prelude.{true, cond, [], ◌∷◌, map, ◌≡◌, ◌+◌, ◌*◌, ◌≤◌, ltb, ℤ, length, take};
+ghost use Rattle.std.specs.Prelude.{true, cond, [], ◌∷◌, map, ◌≡◌, ◌+◌, ◌*◌, ◌≤◌, ltb, ℕ, List, ℤ, length};
 ghost use Rattle.values.specs.code.Places.{AllOf};
 ghost use Rattle.values.specs.Types.{content_size, layout, in_type};
 ghost use Rattle.values.specs.Words.{over};
 ghost use Rattle.expr.specs.Operators.{holds_limit};
-ghost use Rattle.sheet.specs.code.ReadAnswers.{Parts, parts_at};
 ghost use Rattle.sheet.specs.Records.{record_size};
-ghost use Rattle.write.specs.Written.{literal_records, answer_bytes, number_bytes};
-ghost use Rattle.write.specs.code.Parts.{part_records};
+ghost use Rattle.write.specs.Written.{answer_bytes, number_bytes};
+ghost use Rattle.values.specs.code.Lent.{each_now};
+ghost use Rattle.sheet.specs.code.SheetAnswers.{parts_of};
 
 use crate::write::{put_head, put_number, put_string};
 use expr::operator::PredicateOperator;
-use sheet::literal::beginning_of;
+use sheet::parts::ContentParts;
 use values::datatypes::PrimitiveType;
 
 // The head alone.
@@ -22,38 +22,6 @@ pub fn put_no_literal(d: &mut [u8], operator: PredicateOperator, to: PrimitiveTy
     put_head(d, 0, operator, to);
 }
 
-// The head and one number.
-pub fn put_one_number(d: &mut [u8], operator: PredicateOperator, to: PrimitiveType, v: i64)
-    requires record_size_in_bounds { record_size * 2 ≤ length d.old }
-    requires v_value { in_type to v ≡ true }
-    ensures { d.new ≡ over 0 (answer_bytes operator to (number_bytes (layout to) v ∷ [])) d.old }
-{
-    put_head(d, 1, operator, to);
-    put_number(d, 1, 0, to, v);
-}
-
-// The head and two numbers.
-pub fn put_two_numbers(d: &mut [u8], operator: PredicateOperator, to: PrimitiveType, v: i64, w: i64)
-    requires record_size_in_bounds { record_size * 3 ≤ length d.old }
-    requires v_value { in_type to v ≡ true }
-    requires w_value { in_type to w ≡ true }
-    ensures { d.new ≡ over 0 (answer_bytes operator to (number_bytes (layout to) v ∷ number_bytes (layout to) w ∷ [])) d.old }
-{
-    put_head(d, 1, operator, to);
-    put_number(d, 1, 2, to, v);
-    put_number(d, 2, 0, to, w);
-}
-
-// The head and one byte string.
-pub fn put_one_string(d: &mut [u8], operator: PredicateOperator, to: PrimitiveType, bs: &[u8])
-    requires record_size_in_bounds { record_size * 2 ≤ length d.old }
-    requires bs_len_bound { length bs.now ≤ content_size }
-    ensures { d.new ≡ over 0 (answer_bytes operator to (bs.now ∷ [])) d.old }
-{
-    put_head(d, 1, operator, to);
-    put_string(d, 1, 0, bs);
-}
-
 // The number of the record after record k, where n literals are written; 0 after the last.
 fn next_after(k: usize, n: usize) -> u16
     requires { n ≤ holds_limit }
@@ -62,71 +30,45 @@ fn next_after(k: usize, n: usize) -> u16
     if k < n { (k + 1) as u16 } else { 0 }
 }
 
-// The first n numbers of a set in records 1, 2, ..
-fn put_number_records(d: &mut [u8], to: PrimitiveType, set: &[i64], n: usize)
-    requires n_in_bounds { record_size * (n + 1) ≤ length d.old }
-    requires n_le_holds_limit { n ≤ holds_limit }
-    requires n_in_bounds_2 { n ≤ length set.now }
-    requires all_of { AllOf (λ (z : ℤ). in_type to z ≡ true) (take n set.now) }
-    ensures { d.new ≡ over record_size (literal_records 1 (map (number_bytes (layout to)) (take n set.now))) d.old }
+// The head and numbers. Inlined, so that a list whose length is known is written without a loop.
+#[inline(always)]
+pub fn put_numbers(d: &mut [u8], operator: PredicateOperator, to: PrimitiveType, literals: &[i64])
+    requires literals_in_bounds { record_size * (length literals.now + 1) ≤ length d.old }
+    requires literals_le_holds_limit { length literals.now ≤ holds_limit }
+    requires literals_fit { AllOf (λ (z : ℤ). in_type to z ≡ true) literals.now }
+    ensures { d.new ≡ over 0 (answer_bytes operator to (map (number_bytes (layout to)) literals.now)) d.old }
 {
-    let mut i = 0;
-    while i < n {
-        let k = i + 1;
-        put_number(d, k, next_after(k, n), to, set[i]);
-        i += 1;
+    let n = literals.len();
+    put_head(d, next_after(0, n), operator, to);
+    for (i, v) in literals.iter().enumerate() {
+        put_number(d, i + 1, next_after(i + 1, n), to, *v);
     }
 }
 
-// The head and the first n numbers of a set.
-pub fn put_numbers(
-    d: &mut [u8],
-    operator: PredicateOperator,
-    to: PrimitiveType,
-    set: &[i64],
-    n: usize,
-)
-    requires n_in_bounds { record_size * (n + 1) ≤ length d.old }
-    requires n_le_holds_limit { n ≤ holds_limit }
-    requires n_in_bounds_2 { n ≤ length set.now }
-    requires all_of { AllOf (λ (z : ℤ). in_type to z ≡ true) (take n set.now) }
-    ensures { d.new ≡ over 0 (answer_bytes operator to (map (number_bytes (layout to)) (take n set.now))) d.old }
+// The head and byte strings. Inlined, as for numbers.
+#[inline(always)]
+pub fn put_strings(d: &mut [u8], operator: PredicateOperator, to: PrimitiveType, literals: &[&[u8]])
+    requires literals_in_bounds { record_size * (length literals.now + 1) ≤ length d.old }
+    requires literals_le_holds_limit { length literals.now ≤ holds_limit }
+    requires literals_fit { AllOf (λ (bs : List ℕ). length bs ≤ content_size) (each_now literals.now) }
+    ensures { d.new ≡ over 0 (answer_bytes operator to (each_now literals.now)) d.old }
 {
+    let n = literals.len();
     put_head(d, next_after(0, n), operator, to);
-    put_number_records(d, to, set, n);
-}
-
-// The same for beginnings of contents of a sheet, as many bytes as `sizes` has at each record's number.
-fn put_string_records(d: &mut [u8], s: &[u8], sizes: &[u8], set: &[u16], n: usize)
-    requires parts { Parts s.now sizes.now set.now n }
-    requires n_le_holds_limit { n ≤ holds_limit }
-    requires n_in_bounds { record_size * (n + 1) ≤ length d.old }
-    ensures { d.new ≡ over record_size (part_records s.now sizes.now set.now n) d.old }
-{
-    let mut i = 0;
-    while i < n {
-        let k = set[i] as usize;
-        let bs = beginning_of(s, k, sizes[k] as usize);
-        put_string(d, i + 1, next_after(i + 1, n), bs);
-        i += 1;
+    for (i, bs) in literals.iter().enumerate() {
+        put_string(d, i + 1, next_after(i + 1, n), *bs);
     }
 }
 
-// The head and those beginnings.
-pub fn put_strings(
-    d: &mut [u8],
-    operator: PredicateOperator,
-    to: PrimitiveType,
-    s: &[u8],
-    sizes: &[u8],
-    set: &[u16],
-    n: usize,
-)
-    requires parts { Parts s.now sizes.now set.now n }
-    requires n_le_holds_limit { n ≤ holds_limit }
-    requires n_in_bounds { record_size * (n + 1) ≤ length d.old }
-    ensures { d.new ≡ over 0 (answer_bytes operator to (parts_at s.now sizes.now set.now n)) d.old }
+// The head and beginnings of contents of a sheet.
+pub fn put_parts(d: &mut [u8], operator: PredicateOperator, to: PrimitiveType, parts: ContentParts)
+    requires parts_in_bounds { record_size * (length parts.records.now + 1) ≤ length d.old }
+    requires parts_le_holds_limit { length parts.records.now ≤ holds_limit }
+    ensures { d.new ≡ over 0 (answer_bytes operator to (parts_of parts.entry)) d.old }
 {
+    let n = parts.len();
     put_head(d, next_after(0, n), operator, to);
-    put_string_records(d, s, sizes, set, n);
+    for i in 0..n {
+        put_string(d, i + 1, next_after(i + 1, n), parts.content(i));
+    }
 }

@@ -2,7 +2,7 @@
 ghost use Rattle.std.specs.Prelude.{true, ◌++◌, ◌≡◌, ◌+◌, ◌*◌, ◌≤◌, ◌<◌, length, drop, replicate};
 ghost use Rattle.values.specs.Outcomes.{missing};
 ghost use Rattle.values.specs.Types.{content_size, layout, type_number, in_type};
-ghost use Rattle.values.specs.Words.{over, le_bytes, signed_bytes};
+ghost use Rattle.values.specs.Words.{over, le_bytes};
 ghost use Rattle.expr.specs.Operators.{operator_number};
 ghost use Rattle.sheet.specs.Records.{header_size, record_size};
 ghost use Rattle.write.specs.Written.{head_record, literal_record, value_record, number_bytes};
@@ -10,45 +10,14 @@ ghost use Rattle.write.specs.Written.{head_record, literal_record, value_record,
 use expr::operator::PredicateOperator;
 use sheet::records::{CONTENT_SIZE, HEADER_SIZE, MISSING_MARK, RECORD_SIZE};
 use values::datatypes::PrimitiveType;
-use values::words::{put_i32, put_i64, put_u16, put_u32, put_u64, u16_at, u32_at, u64_at};
+use values::words::{put_u16, put_u32, put_u64, u16_at, u32_at, u64_at};
 
-// Up to three zeros, by single stores.
-fn put_few_zeros(d: &mut [u8], at: usize, n: usize)
-    requires n_in_bounds { at + n ≤ length d.old }
-    requires n_bound { n < 4 }
-    ensures { d.new ≡ over at (replicate n 0) d.old }
-{
-    if n == 0 {
-        return;
-    }
-    d[at] = 0;
-    if n == 1 {
-        return;
-    }
-    d[at + 1] = 0;
-    if n == 2 {
-        return;
-    }
-    d[at + 2] = 0;
-}
-
-// Zeros, eight at a time while eight are left, then four, then what is left.
-pub fn put_zeros(d: &mut [u8], at: usize, n: usize)
+// n zeros from index `at` on.
+fn put_zeros(d: &mut [u8], at: usize, n: usize)
     requires { at + n ≤ length d.old }
     ensures { d.new ≡ over at (replicate n 0) d.old }
 {
-    let mut i = 0;
-    while n - i >= 8 {
-        put_u64(d, at + i, 0);
-        i += 8;
-    }
-    let left = n - i;
-    if left < 4 {
-        put_few_zeros(d, at + i, left);
-        return;
-    }
-    put_u32(d, at + i, 0);
-    put_few_zeros(d, at + i + 4, left - 4);
+    d[at..at + n].fill(0);
 }
 
 // Those from index `from` on, fewer than eight: four, then two, then one. A loop here would be compiled into a copy of any length.
@@ -72,7 +41,9 @@ fn put_few_bytes(d: &mut [u8], at: usize, bs: &[u8], from: usize)
     }
 }
 
-// Eight at a time while eight are left, then the few that are left.
+// Bytes from index `at` on: eight at a time while eight are left, then the few that are left. The library for C needs nothing from outside but `memset`, and
+// `copy_from_slice` would need `memmove` too. Inlined, so that a number is one store.
+#[inline(always)]
 pub fn put_bytes(d: &mut [u8], at: usize, bs: &[u8])
     requires { at + length bs.now ≤ length d.old }
     ensures { d.new ≡ over at bs.now d.old }
@@ -99,31 +70,23 @@ pub fn put_head(d: &mut [u8], next: u16, operator: PredicateOperator, column: Pr
     requires { record_size ≤ length d.old }
     ensures { d.new ≡ over 0 (head_record next (operator_number operator) (type_number column)) d.old }
 {
-    put_header(d, 0, next, operator.number());
-    d[4] = column.number();
+    put_header(d, 0, next, u16::from(operator));
+    d[4] = u8::from(column);
     put_zeros(d, 5, RECORD_SIZE - 5);
 }
 
-// A number of four bytes as record k.
-fn put_int(d: &mut [u8], k: usize, next: u16, v: i32)
-    requires { record_size * (k + 1) ≤ length d.old }
-    ensures { d.new ≡ over (record_size * k) (literal_record next (signed_bytes 4 v)) d.old }
+// A byte string as record k, over zeros. Inlined, so that the length of a number is known where it is copied.
+#[inline(always)]
+#[tactic(auto, using(crate::specs::laws::WriteLaws::literal_writes))]
+pub fn put_string(d: &mut [u8], k: usize, next: u16, bs: &[u8])
+    requires k_in_bounds { record_size * (k + 1) ≤ length d.old }
+    requires bs_len_bound { length bs.now ≤ content_size }
+    ensures { d.new ≡ over (record_size * k) (literal_record next bs.now) d.old }
 {
     let at = RECORD_SIZE * k;
-    put_header(d, at, next, 4);
-    put_i32(d, at + HEADER_SIZE, v);
-    put_zeros(d, at + HEADER_SIZE + 4, CONTENT_SIZE - 4);
-}
-
-// A number of eight bytes as record k.
-fn put_long(d: &mut [u8], k: usize, next: u16, v: i64)
-    requires { record_size * (k + 1) ≤ length d.old }
-    ensures { d.new ≡ over (record_size * k) (literal_record next (signed_bytes 8 v)) d.old }
-{
-    let at = RECORD_SIZE * k;
-    put_header(d, at, next, 8);
-    put_i64(d, at + HEADER_SIZE, v);
-    put_zeros(d, at + HEADER_SIZE + 8, CONTENT_SIZE - 8);
+    put_header(d, at, next, bs.len() as u16);
+    put_zeros(d, at + HEADER_SIZE, CONTENT_SIZE);
+    put_bytes(d, at + HEADER_SIZE, bs);
 }
 
 // A number of a column's type as record k.
@@ -133,24 +96,11 @@ pub fn put_number(d: &mut [u8], k: usize, next: u16, column: PrimitiveType, v: i
     ensures { d.new ≡ over (record_size * k) (literal_record next (number_bytes (layout column) v)) d.old }
 {
     match column {
-        PrimitiveType::Int => put_int(d, k, next, v as i32),
-        PrimitiveType::Date => put_int(d, k, next, v as i32),
-        _ => put_long(d, k, next, v),
+        PrimitiveType::Int | PrimitiveType::Date => {
+            put_string(d, k, next, &(v as i32).to_le_bytes())
+        }
+        _ => put_string(d, k, next, &v.to_le_bytes()),
     }
-}
-
-// A byte string as record k.
-pub fn put_string(d: &mut [u8], k: usize, next: u16, bs: &[u8])
-    requires k_in_bounds { record_size * (k + 1) ≤ length d.old }
-    requires bs_len_bound { length bs.now ≤ content_size }
-    ensures { d.new ≡ over (record_size * k) (literal_record next bs.now) d.old }
-{
-    let at = RECORD_SIZE * k;
-    let n = bs.len();
-    put_header(d, at, next, n as u16);
-    // `&*bs` lets the compiler hand on address and length in registers.
-    put_bytes(d, at + HEADER_SIZE, &*bs);
-    put_zeros(d, at + HEADER_SIZE + n, CONTENT_SIZE - n);
 }
 
 // A missing value as record 0.

@@ -1,82 +1,77 @@
 -- A leaf by its operator and the literals in the order of the chain, as the code has it, and what the steps give of it as bytes. Assumes nothing.
-use Rattle.std.specs.Prelude.{ℕ, suc, ◌*◌, ◌≤◌, Bool, true, false, ◌||◌, List, [], ◌≡◌, ℤ, pos, length}
+use Rattle.std.specs.Prelude.{ℕ, Bool, true, false, ◌||◌, List, [], ◌≡◌, ℤ, pos, Ok, Option, Some, None}
 use Rattle.std.proofs.Math.IntN.{suc_ℤ}
 use Rattle.values.specs.Order.{compare_numbers, compare_bytes}
-use Rattle.values.specs.Outcomes.{Res, ok, ◌>>=◌}
+use Rattle.values.specs.Outcomes.{Res, ◌>>=◌}
 use Rattle.values.specs.Types.{number, bytes, layout, content_size, in_type}
 use Rattle.values.specs.Words.{le_number, signed}
 use Rattle.values.specs.declared.datatypes.PrimitiveType.{PrimitiveType}
 use Rattle.values.specs.declared.transform.Transform.{Transform}
 use Rattle.values.specs.declared.transform.Transform.TheVariants.{Identity, Truncate, Year, Month, Day, Hour, Void, Unknown}
-use Rattle.partition.specs.ResultType.{result_type}
-use Rattle.expr.specs.Operators.{Operator, none, one, many, is_in, not_in, by_arity, project_limit}
-use Rattle.expr.specs.code.OperatorAnswers.{takes_one, takes_many, takes, leaf_of}
+use Rattle.expr.specs.Operators.{Operator, none, one, many, is_in, not_in, by_arity}
+use Rattle.expr.specs.code.OperatorAnswers.{takes_one, takes_many, leaf_of}
 use Rattle.expr.specs.Predicates.{Test, Predicate, test}
-use Rattle.expr.specs.declared.operator.PredicateOperator.{PredicateOperator}
 use Rattle.projection.specs.Projection.{by_transform, number_step, bytes_step}
 use Rattle.projection.specs.Steps.{Projected, mapped}
-use Rattle.numbers.specs.declared.steps.NumberProjection.{NumberProjection}
-use Rattle.numbers.specs.declared.steps.NumberProjection.TheVariants as number-projection
+use Rattle.numbers.specs.declared.steps.NumberTest.{NumberTest}
+use Rattle.numbers.specs.declared.steps.NumberTest.TheVariants.{One, Two}
 use Rattle.projection.specs.declared.question.Question.{Question}
 use Rattle.projection.specs.declared.question.Question.TheVariants.{Inclusive, Strict, Older}
-use Rattle.sheet.specs.code.ReadAnswers.{Placed, contents_at, numbers_at}
-use Rattle.sheet.specs.Records.{record_size}
-use Rattle.write.specs.Written.{answer_sheet, number_bytes, sheet_buffer}
+use Rattle.write.specs.Written.{answer_sheet, number_bytes}
 use Rattle.sheet.specs.Values.{by_layout, map_literals}
-use Rattle.sheet.specs.declared.head.Head.{Head}
+use Rattle.sheet.specs.Sheets as sheets
+use Rattle.sheet.specs.code.SheetAnswers.{contents_of, numbers_of}
 use Rattle.answers.specs.Answers.{projected_leaf}
 use Rattle.answers.specs.declared.leaf.Leaf.{Leaf}
 
--- what a sheet's leaf is answered, by its head and the records of its literals
-abbrev pub projected_at : Question → Head → ℕ → List ℕ → List ℕ → Res (Projected (List ℕ))
-projected_at question head count s records =
-    projected_leaf question head.column head.transform (leaf_of [] (by_arity head.operator) (contents_at s records count))
+-- what a sheet's leaf is answered
+abbrev pub projected_at : Question → sheets.Sheet → Res (Projected (List ℕ))
+projected_at question x = projected_leaf question x.head.column x.head.transform x.leaf
 
 -- ---- what the steps give, as bytes
 abbrev pub numbers_written : PrimitiveType → Res (Projected (Predicate ℤ)) → Res (Projected (List ℕ))
 numbers_written to r = do
   q ← r
-  ok (mapped (λ p. answer_sheet to (map_literals (λ z. number_bytes (layout to) z) p)) q)
+  Ok (mapped (λ p. answer_sheet to (map_literals (λ z. number_bytes (layout to) z) p)) q)
 
 abbrev pub bytes_written : PrimitiveType → Res (Projected (Predicate (List ℕ))) → Res (Projected (List ℕ))
 bytes_written to r = do
   q ← r
-  ok (mapped (λ p. answer_sheet to (map_literals (λ s. s) p)) q)
+  Ok (mapped (λ p. answer_sheet to (map_literals (λ s. s) p)) q)
 
 module _ (x : Leaf) where
   unfoldable pub number_steps : Predicate ℤ → Res (Projected (List ℕ))
-  number_steps l = numbers_written x.to (by_transform compare_numbers (number_step x.column x.transform x.question) x.transform l)
+  number_steps l = numbers_written x.to (by_transform compare_numbers (number_step x.sheet.literals.column x.sheet.transform x.question) x.sheet.transform l)
 
   unfoldable pub byte_steps : Predicate (List ℕ) → Res (Projected (List ℕ))
-  byte_steps l = bytes_written x.to (by_transform compare_bytes (bytes_step x.column x.transform x.question) x.transform l)
+  byte_steps l = bytes_written x.to (by_transform compare_bytes (bytes_step x.sheet.literals.column x.sheet.transform x.question) x.sheet.transform l)
 
   abbrev pub steps : Predicate (List ℕ) → Res (Projected (List ℕ))
-  steps l = by_layout (layout x.column) (λ n. number_steps (map_literals (λ bs. signed n (le_number bs)) l)) (byte_steps l)
+  steps l = by_layout (layout x.sheet.literals.column) (λ n. number_steps (map_literals (λ bs. signed n (le_number bs)) l)) (byte_steps l)
 
-  -- the leaf of the records
-  abbrev pub number_leaf_at : List ℕ → List ℕ → Predicate ℤ
-  number_leaf_at s records = leaf_of (pos 0) (by_arity x.operator) (numbers_at (layout x.column) s records x.count)
+-- the leaf, with its literals in the order of the chain
+abbrev pub number_leaf_of : Leaf → Predicate ℤ
+number_leaf_of x = leaf_of (pos 0) (by_arity x.sheet.operator) (numbers_of x.sheet.literals)
 
-  abbrev pub bytes_leaf_at : List ℕ → List ℕ → Predicate (List ℕ)
-  bytes_leaf_at s records = leaf_of [] (by_arity x.operator) (contents_at s records x.count)
+abbrev pub bytes_leaf_of : Leaf → Predicate (List ℕ)
+bytes_leaf_of x = leaf_of [] (by_arity x.sheet.operator) (contents_of x.sheet.literals)
 
 -- a test on one literal, written
 abbrev pub one_written : PrimitiveType → Res (Projected (Test ℤ)) → Res (Projected (List ℕ))
 one_written to r = numbers_written to (do
   q ← r
-  ok (mapped test q))
+  Ok (mapped test q))
 
 abbrev pub one_bytes_written : PrimitiveType → Res (Projected (Test (List ℕ))) → Res (Projected (List ℕ))
 one_bytes_written to r = bytes_written to (do
   q ← r
-  ok (mapped test q))
+  Ok (mapped test q))
 
 -- numbers that an answer sheet of the type can hold
-abbrev pub NumbersIn : PrimitiveType → NumberProjection → Type 0
-NumbersIn to number-projection.None = Unit {0}
-NumbersIn to (number-projection.One o t) = (in_type to t ≡ true) × (takes_one (by_arity o) ≡ true)
-NumbersIn to (number-projection.Two o t) = (in_type to t ≡ true) × (in_type to (suc_ℤ t) ≡ true) × (takes_many (by_arity o) ≡ true)
-NumbersIn to (number-projection.Err e) = Unit {0}
+abbrev pub NumbersIn : PrimitiveType → Option NumberTest → Type 0
+NumbersIn to None = Unit {0}
+NumbersIn to (Some (One o t)) = (in_type to t ≡ true) × (takes_one (by_arity o) ≡ true)
+NumbersIn to (Some (Two o t)) = (in_type to t ≡ true) × (in_type to (suc_ℤ t) ≡ true) × (takes_many (by_arity o) ≡ true)
 
 -- Void and Unknown have no steps
 abbrev pub has_steps : Transform → Bool
@@ -98,20 +93,6 @@ is_identity Day = false
 is_identity Hour = false
 is_identity Void = false
 is_identity Unknown = false
-
--- what a sheet that was read, and a buffer that is large enough, promise
-pub record Ready (column : PrimitiveType) (operator : PredicateOperator) (count : ℕ) (s records out : List ℕ) : Type 0 where
-  pub placed : Placed (layout column) s records count
-  pub taken : takes (by_arity operator) count ≡ true
-  pub few : count ≤ project_limit
-  pub short : length s ≤ record_size * suc project_limit
-  pub room : sheet_buffer ≤ length out
-
--- and of a leaf that has steps
-pub record ReadyLeaf (x : Leaf) (s records out : List ℕ) : Type 0 where
-  pub ready : Ready x.column x.operator x.count s records out
-  pub result : result_type x.transform x.column ≡ ok x.to
-  pub known : has_steps x.transform ≡ true
 
 -- ---- sets
 

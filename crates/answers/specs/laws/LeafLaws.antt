@@ -1,8 +1,8 @@
 -- What a leaf is answered, by the checks before the steps: 4, then 5, then the steps. Assumes nothing.
-use Rattle.std.specs.Prelude.{ℕ, Bool, true, false, not, ◌||◌, List, ◌≡◌, ℤ}
+use Rattle.std.specs.Prelude.{ℕ, Bool, true, false, not, ◌||◌, List, ◌≡◌, ℤ, Ok, Err}
 use Rattle.std.proofs.Math.Path.{refl}
 use Rattle.std.proofs.Common.{◌∙◌}
-use Rattle.values.specs.Outcomes.{Res, ok, err, need, ◌>>=◌, ◌>>◌}
+use Rattle.values.specs.Outcomes.{Res, need, ◌>>=◌, ◌>>◌}
 use Rattle.values.specs.laws.OutcomeLaws.{passing, failing}
 use Rattle.values.specs.Types.{Layout, number, bytes, layout, same_type}
 use Rattle.values.specs.Words.{le_number, signed}
@@ -37,7 +37,7 @@ numbers_string TimestamptzNs n e = refl
 numbers_string String n e = cc
 numbers_string Binary n e = cc
 
-pub then_on : {A B : Type 0} (x : A) (b : Bool) (f : A → Res B) → ((need b NotUtf8 >> ok x) >>= f) ≡ (need b NotUtf8 >> f x)
+pub then_on : {A B : Type 0} (x : A) (b : Bool) (f : A → Res B) → ((need b NotUtf8 >> Ok x) >>= f) ≡ (need b NotUtf8 >> f x)
 then_on x true f = refl
 then_on x false f = refl
 
@@ -60,34 +60,42 @@ module _ (question : Question) (column : PrimitiveType) (transform : Transform) 
   checked_leaf = go (layout column) refl
     where
       go : (l : Layout) → layout column ≡ l
-          → by_layout l (λ n. projected (numbers column transform n) column transform question leaf) (projected (byte_strings column transform) column transform question leaf)
+          → by_layout l
+          (λ n. projected (numbers column transform n) column transform question leaf)
+          (projected (byte_strings column transform) column transform question leaf)
           ≡ (need (asked column leaf) NotUtf8 >> by_layout l
           (λ n. result_type transform column >>= λ to. numbers_written to (project_numbers question column transform (number_leaf n)))
           (result_type transform column >>= λ to. bytes_written to (project_bytes question column transform leaf)))
       go (number n) e = rw (number_literals n leaf, numbers_string column n e)
       go (bytes n) e = rw (bytes_literals column leaf) (then_on leaf (asked column leaf) _)
 
-  pub leaf_not_utf8 : asked column leaf ≡ false → projected_leaf question column transform leaf ≡ err NotUtf8
+  pub leaf_not_utf8 : asked column leaf ≡ false → projected_leaf question column transform leaf ≡ Err NotUtf8
   leaf_not_utf8 h = checked_leaf ∙ failing NotUtf8 rest h
 
-  pub leaf_no_type : {e : ErrorKind} → asked column leaf ≡ true → result_type transform column ≡ err e → projected_leaf question column transform leaf ≡ err e
+  pub leaf_no_type : {e : ErrorKind} → asked column leaf ≡ true → result_type transform column ≡ Err e → projected_leaf question column transform leaf ≡ Err e
   leaf_no_type {e} h r = checked_leaf ∙ passing NotUtf8 rest h ∙ go (layout column)
     where
       go : (l : Layout) → by_layout l
           (λ n. result_type transform column >>= λ to. numbers_written to (project_numbers question column transform (number_leaf n)))
           (result_type transform column >>= λ to. bytes_written to (project_bytes question column transform leaf))
-          ≡ err e
+          ≡ Err e
       go (number n) = rw r
       go (bytes n) = rw r
 
-pub leaf_steps : (x : Leaf) (leaf : Predicate (List ℕ)) → asked x.column leaf ≡ true → result_type x.transform x.column ≡ ok x.to
-    → projected_leaf x.question x.column x.transform leaf ≡ steps x leaf
-unfolding number_steps byte_steps project_numbers project_bytes
-leaf_steps x leaf h r = checked_leaf x.question x.column x.transform leaf ∙ passing NotUtf8 (rest x.question x.column x.transform leaf) h ∙ go (layout x.column)
-  where
-    go : (l : Layout) → by_layout l
-        (λ n. result_type x.transform x.column >>= λ to. numbers_written to (project_numbers x.question x.column x.transform (number_leaf x.question x.column x.transform leaf n)))
-        (result_type x.transform x.column >>= λ to. bytes_written to (project_bytes x.question x.column x.transform leaf))
-        ≡ by_layout l (λ n. number_steps x (map_literals (λ bs. signed n (le_number bs)) leaf)) (byte_steps x leaf)
-    go (number n) = rw r
-    go (bytes n) = rw r
+module _ (x : Leaf) (leaf : Predicate (List ℕ)) where
+  abbrev column : PrimitiveType
+  column = x.sheet.literals.column
+
+  abbrev transform : Transform
+  transform = x.sheet.transform
+
+  pub leaf_steps : asked column leaf ≡ true → projected_leaf x.question column transform leaf ≡ steps x leaf
+  unfolding number_steps byte_steps project_numbers project_bytes
+  leaf_steps h = checked_leaf x.question column transform leaf ∙ passing NotUtf8 (rest x.question column transform leaf) h ∙ go (layout column)
+    where
+      go : (l : Layout) → by_layout l
+          (λ n. result_type transform column >>= λ to. numbers_written to (project_numbers x.question column transform (number_leaf x.question column transform leaf n)))
+          (result_type transform column >>= λ to. bytes_written to (project_bytes x.question column transform leaf))
+          ≡ by_layout l (λ n. number_steps x (map_literals (λ bs. signed n (le_number bs)) leaf)) (byte_steps x leaf)
+      go (number n) = rw x.typed
+      go (bytes n) = rw x.typed

@@ -1,6 +1,6 @@
 -- A leaf with one number: the number is of the column's type, what it comes to is of the result type, and the bytes that are written are its answer
 -- sheet. Assumes nothing.
-use Rattle.std.specs.Prelude.{ℕ, suc, ◌*◌, true, false, List, [], ◌∷◌, map, ◌≡◌, ℤ, length, get_or}
+use Rattle.std.specs.Prelude.{ℕ, suc, ◌*◌, true, false, List, [], ◌∷◌, map, ◌≡◌, ℤ, length, get_or, Ok, Option, Some, None}
 use Rattle.std.proofs.lemmas.Bool.{false≢true}
 use Rattle.std.proofs.Common.{sym, ap, subst, ◌∙◌, eq-eqb}
 use Rattle.std.proofs.Math.IntN.{suc_ℤ}
@@ -8,7 +8,7 @@ use Rattle.std.proofs.lemmas.List.{length-map}
 use Rattle.values.specs.code.Places.{AllOf}
 use Rattle.values.specs.Order.{compare_numbers}
 use Rattle.values.specs.laws.OutcomeLaws.{ok_inj}
-use Rattle.values.specs.Outcomes.{ok, ◌>>=◌}
+use Rattle.values.specs.Outcomes.{Res, ◌>>=◌}
 use Rattle.values.specs.Types.{Layout, number, bytes, layout, fits, in_layout, in_type}
 use Rattle.values.specs.laws.TypesLaws.{Sized, sized}
 use Rattle.values.specs.laws.WordLaws.{length_bytes}
@@ -28,20 +28,19 @@ use Rattle.projection.proofs.LandingLaws.{numbers_land}
 use Rattle.projection.specs.Projection.{by_transform, number_step, project_numbers}
 use Rattle.projection.specs.Steps.{some, mapped}
 use Rattle.projection.specs.declared.question.Question.{Question}
-use Rattle.numbers.specs.declared.steps.NumberProjection.{NumberProjection}
-use Rattle.numbers.specs.declared.steps.NumberProjection.TheVariants as number-projection
-use Rattle.sheet.specs.code.ReadAnswers.{number_at}
+use Rattle.numbers.specs.declared.steps.NumberTest.{NumberTest}
+use Rattle.numbers.specs.declared.steps.NumberTest.TheVariants.{One, Two}
+use Rattle.sheet.specs.code.Placed.{number_at}
 use Rattle.sheet.specs.Records.{record_size}
 use Rattle.sheet.specs.laws.SheetLaws.{Fits}
 use Rattle.write.specs.Written.{answer_bytes, answer_sheet, number_bytes}
 use Rattle.write.specs.laws.WrittenLaws.{length_answer}
 use Rattle.answers.specs.code.Settled.{Settled}
 use Rattle.sheet.specs.Values.{map_literals}
-use Rattle.answers.specs.code.Leaves.{numbers_written, number_steps, number_leaf_at, one_written, NumbersIn, has_steps, is_identity, ReadyLeaf, NumberColumn}
+use Rattle.answers.specs.code.Leaves.{numbers_written, number_steps, number_leaf_of, one_written, NumbersIn, has_steps, is_identity, NumberColumn}
 use Rattle.answers.specs.laws.OneLiteralLaws.{takes_one_lem, takes_many_lem, one_literal}
 use Rattle.sheet.specs.laws.ReadLaws.{map_operator, map_literals_lem}
 use Rattle.answers.specs.laws.StepsLaws.{steps_through}
-use Rattle.answers.specs.declared.answer.Answer.TheVariants.{Written}
 use Rattle.answers.specs.declared.leaf.Leaf.{Leaf}
 
 -- ---- numbers of a type as bytes
@@ -59,7 +58,7 @@ numbers_fit to (z ∷ zs) h = (number_fits (layout to) z h.0, numbers_fit to zs 
 pub predicate_written : (to : PrimitiveType) (p : Predicate ℤ) {before after : List ℕ} {n : ℕ} → AllOf (InType to) (literals_in p)
     → after ≡ over 0 (answer_bytes (operator_in p) to (map (λ z. number_bytes (layout to) z) (literals_in p))) before
     → n ≡ record_size * suc (length (literals_in p))
-    → Settled (numbers_written to (ok (some p))) before after (Written n)
+    → Settled (numbers_written to (Ok (some p))) before after (Ok (Some n))
 unfolding answer_sheet
 predicate_written to p {before} inside written size =
     let f : ℤ → List ℕ = λ z. number_bytes (layout to) z in
@@ -67,7 +66,7 @@ predicate_written to p {before} inside written size =
     let fit : Fits to (literals_in q) = rw (map_literals_lem f p) (numbers_fit to (literals_in p) inside) in
     let long : record_size * suc (length (literals_in q)) ≡ record_size * suc (length (literals_in p)) = rw (map_literals_lem f p, length-map (literals_in p) f) in
     record {
-      number = ap Written (size ∙ sym long ∙ sym (length_answer to q fit));
+      number = ap (λ (k : ℕ). Ok (Some k)) (size ∙ sym long ∙ sym (length_answer to q fit));
       left = written ∙ rw (map_operator f p, map_literals_lem f p);
     }
 
@@ -88,75 +87,83 @@ module _ (column : PrimitiveType) (records : NumberColumn column) where
 
 -- ---- what a number of the column comes to, under every other transform than Identity that has steps
 module _ (question : Question) (column to : PrimitiveType) (transform : Transform) (a : Operator) (single : takes_one a ≡ true) (literal : ℤ)
-    (result : result_type transform column ≡ ok to) (known : has_steps transform ≡ true) (other : is_identity transform ≡ false) where
+    (result : result_type transform column ≡ Ok to) (known : has_steps transform ≡ true) (other : is_identity transform ≡ false) where
   abbrev leaf : Predicate ℤ
   leaf = test (binary (takes_one_lem a single).0 literal)
 
-  module _ (p : NumberProjection) (projected : number_projected p ≡ number_leaf question column transform a literal) where
+  abbrev Comes : Res (Option NumberTest) → Type 0
+  Comes p = number_projected p ≡ number_leaf question column transform a literal
+
+  module _ (p : Res (Option NumberTest)) (projected : Comes p) where
     step_is : number_step column transform question (binary (takes_one_lem a single).0 literal) ≡ number_projected p
     step_is = sym (projected ∙ ap (λ b. number_leaf question column transform b literal) (takes_one_lem a single).1)
 
-    pub leaf_stepped : by_transform compare_numbers (number_step column transform question) transform leaf ≡ (number_projected p >>= λ q. ok (mapped test q))
+    pub leaf_stepped : by_transform compare_numbers (number_step column transform question) transform leaf ≡ (number_projected p >>= λ q. Ok (mapped test q))
     leaf_stepped = steps_through compare_numbers (number_step column transform question) transform leaf known other ∙ rw step_is
 
-    landed : InType column literal → (q : Test ℤ) → number_projected p ≡ ok (some q) → AllOf (InType to) (literals_in (test q))
+    landed : InType column literal → (q : Test ℤ) → number_projected p ≡ Ok (some q) → AllOf (InType to) (literals_in (test q))
     unfolding project_numbers
     landed inside q e = (numbers_land question column to transform leaf (test q) result (inside, tt) (leaf_stepped ∙ rw e)).all
 
-  pub leaf_inside : InType column literal → (p : NumberProjection) → number_projected p ≡ number_leaf question column transform a literal → OneIn p
-      → NumbersIn to p
-  leaf_inside inside number-projection.None e h = tt
-  leaf_inside inside (number-projection.One o t) e h =
+  pub leaf_inside : InType column literal → (p : Option NumberTest) → Comes (Ok p) → OneIn (Ok p) → NumbersIn to p
+  leaf_inside inside None e h = tt
+  leaf_inside inside (Some (One o t)) e h =
       let k = takes_one_lem (by_arity o) h in
-      ((landed (number-projection.One o t) e inside (binary k.0 t) (ap (λ b. ok (one_test b t)) k.1)).0, h)
-  leaf_inside inside (number-projection.Two o t) e h =
+      ((landed (Ok (Some (One o t))) e inside (binary k.0 t) (ap (λ b. Ok (one_test b t)) k.1)).0, h)
+  leaf_inside inside (Some (Two o t)) e h =
       let k = takes_many_lem (by_arity o) h in
-      let all = landed (number-projection.Two o t) e inside (set k.0 (t ∷ suc_ℤ t ∷ [])) (ap (λ b. ok (two_test b t)) k.1) in
+      let all = landed (Ok (Some (Two o t))) e inside (set k.0 (t ∷ suc_ℤ t ∷ [])) (ap (λ b. Ok (two_test b t)) k.1) in
       (all.0, all.1.0, h)
-  leaf_inside inside (number-projection.Err k) e h = tt
 
 -- ---- a leaf with one literal
-pub identity_type : (transform : Transform) (column to : PrimitiveType) → transform ≡ Identity → result_type transform column ≡ ok to → column ≡ to
+identity_steps : (question : Question) (column to : PrimitiveType) (transform : Transform) (o : BinaryOperator) (z : ℤ) → transform ≡ Identity
+    → numbers_written to (by_transform compare_numbers (number_step column transform question) transform (test (binary o z)))
+    ≡ numbers_written to (Ok (some (test (binary o z))))
+identity_steps question column to transform o z t = rw t
+
+pub identity_type : (transform : Transform) (column to : PrimitiveType) → transform ≡ Identity → result_type transform column ≡ Ok to → column ≡ to
 unfolding result_type
 identity_type transform column to t result = ok_inj (rw t at result)
 
-module _ {x : Leaf} {s records out : List ℕ} (column : NumberColumn x.column) (ready : ReadyLeaf x s records out)
-    (single : takes_one (by_arity x.operator) ≡ true) where
+-- the number in the first record
+abbrev pub literal_of : Leaf → ℤ
+literal_of x = number_at (layout x.sheet.literals.column) x.sheet.literals.sheet.now (get_or x.sheet.literals.records.now 0 0)
+
+pub literal_inside : (x : Leaf) → NumberColumn x.sheet.literals.column → InType x.sheet.literals.column (literal_of x)
+literal_inside x column = number_inside x.sheet.literals.column column x.sheet.literals.sheet.now (get_or x.sheet.literals.records.now 0 0)
+
+module _ (x : Leaf) (column : NumberColumn x.sheet.literals.column) (known : has_steps x.sheet.transform ≡ true)
+    (single : takes_one (by_arity x.sheet.operator) ≡ true) where
   abbrev o : BinaryOperator
-  o = (takes_one_lem (by_arity x.operator) single).0
+  o = (takes_one_lem (by_arity x.sheet.operator) single).0
 
-  is_one : by_arity x.operator ≡ one o
-  is_one = (takes_one_lem (by_arity x.operator) single).1
+  is_one : by_arity x.sheet.operator ≡ one o
+  is_one = (takes_one_lem (by_arity x.sheet.operator) single).1
 
-  abbrev literal : ℤ
-  literal = number_at (layout x.column) s (get_or records 0 0)
-
-  one_leaf : number_leaf_at x s records ≡ test (binary o literal)
-  one_leaf = rw (is_one, one_literal ready single (number_at (layout x.column) s))
+  one_leaf : number_leaf_of x ≡ test (binary o (literal_of x))
+  one_leaf = rw (is_one, one_literal x single (number_at (layout x.sheet.literals.column) x.sheet.literals.sheet.now))
 
   -- under Identity it is the leaf itself
-  pub one_itself : x.transform ≡ Identity
-      → number_steps x (number_leaf_at x s records) ≡ one_written x.to (number_projected (number-projection.One x.operator literal))
+  pub one_itself : x.sheet.transform ≡ Identity
+      → number_steps x (number_leaf_of x) ≡ one_written x.to (number_projected (Ok (Some (One x.sheet.operator (literal_of x)))))
   unfolding number_steps
-  one_itself t = rw (one_leaf, t, is_one)
+  one_itself t = rw (one_leaf, is_one) (identity_steps x.question x.sheet.literals.column x.to x.sheet.transform o (literal_of x) t)
 
-  pub itself_inside : x.transform ≡ Identity → NumbersIn x.to (number-projection.One x.operator literal)
-  itself_inside t =
-      (rw (← identity_type x.transform x.column x.to t ready.result) (number_inside x.column column s (get_or records 0 0)), single)
+  pub itself_inside : x.sheet.transform ≡ Identity → NumbersIn x.to (Some (One x.sheet.operator (literal_of x)))
+  itself_inside t = (rw (← identity_type x.sheet.transform x.sheet.literals.column x.to t x.typed) (literal_inside x column), single)
 
   -- else what it comes to
-  pub one_projected : is_identity x.transform ≡ false → (p : NumberProjection)
-      → number_projected p ≡ number_leaf x.question x.column x.transform (by_arity x.operator) literal
-      → number_steps x (number_leaf_at x s records) ≡ one_written x.to (number_projected p)
-  unfolding number_steps
-  one_projected other p e =
-      rw (
-        one_leaf,
-        leaf_stepped x.question x.column x.to x.transform (by_arity x.operator) single literal ready.result ready.known other p e,
-      )
+  module _ (other : is_identity x.sheet.transform ≡ false) where
+    abbrev pub Comes_to : Res (Option NumberTest) → Type 0
+    Comes_to p = number_projected p ≡ number_leaf x.question x.sheet.literals.column x.sheet.transform (by_arity x.sheet.operator) (literal_of x)
 
-  pub projected_inside : is_identity x.transform ≡ false → (p : NumberProjection)
-      → number_projected p ≡ number_leaf x.question x.column x.transform (by_arity x.operator) literal → OneIn p → NumbersIn x.to p
-  projected_inside other p e h =
-      leaf_inside x.question x.column x.to x.transform (by_arity x.operator) single literal ready.result ready.known other
-      (number_inside x.column column s (get_or records 0 0)) p e h
+    pub one_projected : (p : Res (Option NumberTest)) → Comes_to p → number_steps x (number_leaf_of x) ≡ one_written x.to (number_projected p)
+    unfolding number_steps
+    one_projected p e =
+        let y = x.sheet in
+        rw (one_leaf, leaf_stepped x.question y.literals.column x.to y.transform (by_arity y.operator) single (literal_of x) x.typed known other p e)
+
+    pub projected_inside : (p : Option NumberTest) → Comes_to (Ok p) → OneIn (Ok p) → NumbersIn x.to p
+    projected_inside p e h =
+        let y = x.sheet in
+        leaf_inside x.question y.literals.column x.to y.transform (by_arity y.operator) single (literal_of x) x.typed known other (literal_inside x column) p e h

@@ -1,8 +1,8 @@
 -- What the steps give of a leaf, by the kind of its column, its transform and its operator. Assumes nothing.
-use Rattle.std.specs.Prelude.{ℕ, true, false, List, [], map, ◌≡◌, refl, ℤ, pos}
+use Rattle.std.specs.Prelude.{ℕ, true, false, List, [], map, ◌≡◌, refl, ℤ, pos, length, Ok, Err}
 use Rattle.std.proofs.Common.{sym, ap, ◌∙◌}
 use Rattle.values.specs.Order.{compare_numbers, compare_bytes}
-use Rattle.values.specs.Outcomes.{Res, ok, err}
+use Rattle.values.specs.Outcomes.{Res}
 use Rattle.values.specs.laws.TestLaws.{clash, or_neither}
 use Rattle.values.specs.Types.{Layout, number, bytes, layout}
 use Rattle.values.specs.Words.{le_number, signed}
@@ -10,7 +10,7 @@ use Rattle.values.specs.declared.datatypes.PrimitiveType.{PrimitiveType}
 use Rattle.values.specs.declared.datatypes.PrimitiveType.TheVariants.{Int, Long, Date, Time, String, Binary}
 use Rattle.values.specs.declared.datatypes.PrimitiveType.TheVariants.{Timestamp, Timestamptz, TimestampNs, TimestamptzNs}
 use Rattle.values.specs.declared.error.ErrorKind.TheVariants.{FeatureUnsupported}
-use Rattle.values.specs.declared.order.Ordering.{Ordering}
+use Rattle.std.specs.declared.cmp.Ordering.{Ordering}
 use Rattle.values.specs.declared.transform.Transform.{Transform}
 use Rattle.values.specs.declared.transform.Transform.TheVariants.{Identity, Truncate, Year, Month, Day, Hour, Void, Unknown}
 use Rattle.expr.specs.Operators as operators
@@ -24,18 +24,18 @@ use Rattle.projection.specs.Projection.{through, by_transform, number_step, byte
 use Rattle.projection.specs.Steps.{Projected, some, none}
 use Rattle.projection.specs.declared.question.Question.{Question}
 use Rattle.projection.specs.declared.question.Question.TheVariants.{Inclusive, Strict, Older}
-use Rattle.sheet.specs.code.ReadAnswers.{Placed, contents_at}
+use Rattle.sheet.specs.code.SheetAnswers.{contents_of}
 use Rattle.write.specs.Written.{answer_bytes, answer_sheet}
 use Rattle.sheet.specs.code.Contents.{number_in}
 use Rattle.sheet.specs.laws.ReadLaws.{map_leaf, placed_numbers}
 use Rattle.sheet.specs.Values.{by_layout, map_literals}
-use Rattle.answers.specs.code.Leaves.{number_steps, byte_steps, steps, number_leaf_at, bytes_leaf_at}
+use Rattle.answers.specs.code.Leaves.{number_steps, byte_steps, steps, number_leaf_of, bytes_leaf_of}
 use Rattle.answers.specs.code.Leaves.{has_steps, is_identity, kept_by, keeps, NumberColumn, BytesColumn}
 use Rattle.answers.specs.declared.leaf.Leaf.{Leaf}
 
 -- ---- leaves of either kind of column
 module _ {A : Type 0} (compare : A → A → Ordering) (step : Test A → Res (Projected (Test A))) where
-  unary_through : (t : Transform) (o : Unary) → has_steps t ≡ true → by_transform compare step t (unary o) ≡ ok (some (unary o))
+  unary_through : (t : Transform) (o : Unary) → has_steps t ≡ true → by_transform compare step t (unary o) ≡ Ok (some (unary o))
   unary_through Identity o h = refl
   unary_through (Truncate width) o h = refl
   unary_through Year o h = refl
@@ -56,22 +56,22 @@ module _ {A : Type 0} (compare : A → A → Ordering) (step : Test A → Res (P
   steps_through Void leaf h other = clash h refl
   steps_through Unknown leaf h other = clash h refl
 
-  step_none : (t : Transform) (u : Test A) → has_steps t ≡ true → is_identity t ≡ false → step u ≡ ok none
-      → by_transform compare step t (test u) ≡ ok none
+  step_none : (t : Transform) (u : Test A) → has_steps t ≡ true → is_identity t ≡ false → step u ≡ Ok none
+      → by_transform compare step t (test u) ≡ Ok none
   step_none t u h other e = steps_through t (test u) h other ∙ rw e
 
 module _ (column : PrimitiveType) (transform : Transform) where
   numbers_not_kept : (question : Question) (o : SetOperator) (ls : List ℤ) → kept_by question (many o) ≡ false
-      → number_step column transform question (set o ls) ≡ ok none
+      → number_step column transform question (set o ls) ≡ Ok none
   numbers_not_kept Inclusive is_in ls h = clash refl h
-  numbers_not_kept Inclusive not_in ls h = ap ok (sym (lifted_none (lifted column transform)))
+  numbers_not_kept Inclusive not_in ls h = ap Ok (sym (lifted_none (lifted column transform)))
   numbers_not_kept Strict is_in ls h = refl
   numbers_not_kept Strict not_in ls h = clash refl h
   numbers_not_kept Older is_in ls h = refl
   numbers_not_kept Older not_in ls h = clash refl h
 
   bytes_not_kept : (question : Question) (o : SetOperator) (ls : List (List ℕ)) → kept_by question (many o) ≡ false
-      → bytes_step column transform question (set o ls) ≡ ok none
+      → bytes_step column transform question (set o ls) ≡ Ok none
   bytes_not_kept Inclusive is_in ls h = clash refl h
   bytes_not_kept Inclusive not_in ls h = refl
   bytes_not_kept Strict is_in ls h = refl
@@ -95,81 +95,81 @@ module _ (x : Leaf) where
   -- ---- by the kind of the column
   either_kind : (leaf : Predicate (List ℕ)) {r : Res (Projected (List ℕ))}
       → ((n : ℕ) → number_steps x (map_literals (λ bs. signed n (le_number bs)) leaf) ≡ r) → byte_steps x leaf ≡ r → steps x leaf ≡ r
-  either_kind leaf {r} f g = go (layout x.column)
+  either_kind leaf {r} f g = go (layout x.sheet.literals.column)
     where
       go : (l : Layout) → by_layout l (λ n. number_steps x (map_literals (λ bs. signed n (le_number bs)) leaf)) (byte_steps x leaf) ≡ r
       go (number n) = f n
       go (bytes n) = g
 
-  pub bytes_steps : (leaf : Predicate (List ℕ)) → BytesColumn x.column → steps x leaf ≡ byte_steps x leaf
+  pub bytes_steps : (leaf : Predicate (List ℕ)) → BytesColumn x.sheet.literals.column → steps x leaf ≡ byte_steps x leaf
   bytes_steps leaf is = rw is
 
-  number_kind : (leaf : Predicate (List ℕ)) → NumberColumn x.column → steps x leaf ≡ number_steps x (map_literals (number_in (layout x.column)) leaf)
+  number_kind : (leaf : Predicate (List ℕ)) → NumberColumn x.sheet.literals.column
+      → steps x leaf ≡ number_steps x (map_literals (number_in (layout x.sheet.literals.column)) leaf)
   number_kind leaf is = rw is.is
 
-  pub number_steps_lem : (s records : List ℕ) → NumberColumn x.column → Placed (layout x.column) s records x.count
-      → steps x (bytes_leaf_at x s records) ≡ number_steps x (number_leaf_at x s records)
-  number_steps_lem s records is placed =
-      number_kind (bytes_leaf_at x s records) is
-      ∙ ap (number_steps x) (map_leaf (number_in (layout x.column)) [] (by_arity x.operator) (contents_at s records x.count)
-      ∙ rw (zero_number x.column, placed_numbers (layout x.column) s records x.count placed))
+  pub number_steps_lem : NumberColumn x.sheet.literals.column → steps x (bytes_leaf_of x) ≡ number_steps x (number_leaf_of x)
+  number_steps_lem is =
+      let y = x.sheet.literals in
+      number_kind (bytes_leaf_of x) is
+      ∙ ap (number_steps x) (map_leaf (number_in (layout y.column)) [] (by_arity x.sheet.operator) (contents_of y)
+      ∙ rw (zero_number y.column, placed_numbers (layout y.column) y.sheet.now y.records.now (length y.records.now) y.placed))
 
   -- ---- by the transform: those without steps
-  pub void_steps : (leaf : Predicate (List ℕ)) → x.transform ≡ Void → steps x leaf ≡ ok none
+  pub void_steps : (leaf : Predicate (List ℕ)) → x.sheet.transform ≡ Void → steps x leaf ≡ Ok none
   unfolding number_steps byte_steps
   void_steps leaf is = either_kind leaf (λ n. rw is) (rw is)
 
-  pub unknown_steps : (leaf : Predicate (List ℕ)) → x.transform ≡ Unknown → steps x leaf ≡ err FeatureUnsupported
+  pub unknown_steps : (leaf : Predicate (List ℕ)) → x.sheet.transform ≡ Unknown → steps x leaf ≡ Err FeatureUnsupported
   unfolding number_steps byte_steps
   unknown_steps leaf is = either_kind leaf (λ n. rw is) (rw is)
 
   -- ---- by the operator
-  module _ (known : has_steps x.transform ≡ true) where
+  module _ (known : has_steps x.sheet.transform ≡ true) where
     abbrev number_test : Test ℤ → Res (Projected (Test ℤ))
-    number_test u = number_step x.column x.transform x.question u
+    number_test u = number_step x.sheet.literals.column x.sheet.transform x.question u
 
     abbrev bytes_test : Test (List ℕ) → Res (Projected (Test (List ℕ)))
-    bytes_test u = bytes_step x.column x.transform x.question u
+    bytes_test u = bytes_step x.sheet.literals.column x.sheet.transform x.question u
 
-    unary_leaf : (o : Unary) → x.operator ≡ operator_of (operators.none o) → steps x (unary o) ≡ ok (some (answer_bytes x.operator x.to []))
+    unary_leaf : (o : Unary) → x.sheet.operator ≡ operator_of (operators.none o) → steps x (unary o) ≡ Ok (some (answer_bytes x.sheet.operator x.to []))
     unfolding number_steps byte_steps answer_sheet
     unary_leaf o is =
         either_kind
         (unary o)
-        (λ n. rw (unary_through compare_numbers number_test x.transform o known, is))
-        (rw (unary_through compare_bytes bytes_test x.transform o known, is))
+        (λ n. rw (unary_through compare_numbers number_test x.sheet.transform o known, is))
+        (rw (unary_through compare_bytes bytes_test x.sheet.transform o known, is))
 
-    module _ (o : SetOperator) (left_out : keeps x.transform x.question (many o) ≡ false) where
-      numbers_none : (zs : List ℤ) → by_transform compare_numbers number_test x.transform (test (set o zs)) ≡ ok none
+    module _ (o : SetOperator) (left_out : keeps x.sheet.transform x.question (many o) ≡ false) where
+      numbers_none : (zs : List ℤ) → by_transform compare_numbers number_test x.sheet.transform (test (set o zs)) ≡ Ok none
       numbers_none zs =
-          let k = or_neither (is_identity x.transform) (kept_by x.question (many o)) left_out in
-          step_none compare_numbers number_test x.transform (set o zs) known k.0 (numbers_not_kept x.column x.transform x.question o zs k.1)
+          let k = or_neither (is_identity x.sheet.transform) (kept_by x.question (many o)) left_out in
+          step_none compare_numbers number_test x.sheet.transform (set o zs) known k.0 (numbers_not_kept x.sheet.literals.column x.sheet.transform x.question o zs k.1)
 
-      bytes_none : (ls : List (List ℕ)) → by_transform compare_bytes bytes_test x.transform (test (set o ls)) ≡ ok none
+      bytes_none : (ls : List (List ℕ)) → by_transform compare_bytes bytes_test x.sheet.transform (test (set o ls)) ≡ Ok none
       bytes_none ls =
-          let k = or_neither (is_identity x.transform) (kept_by x.question (many o)) left_out in
-          step_none compare_bytes bytes_test x.transform (set o ls) known k.0 (bytes_not_kept x.column x.transform x.question o ls k.1)
+          let k = or_neither (is_identity x.sheet.transform) (kept_by x.question (many o)) left_out in
+          step_none compare_bytes bytes_test x.sheet.transform (set o ls) known k.0 (bytes_not_kept x.sheet.literals.column x.sheet.transform x.question o ls k.1)
 
-      set_leaf : (ls : List (List ℕ)) → steps x (test (set o ls)) ≡ ok none
+      set_leaf : (ls : List (List ℕ)) → steps x (test (set o ls)) ≡ Ok none
       unfolding number_steps byte_steps
       set_leaf ls = either_kind (test (set o ls)) (λ n. rw (numbers_none (map (λ bs. signed n (le_number bs)) ls))) (rw (bytes_none ls))
 
-    module _ (s records : List ℕ) where
-      pub unary_steps : takes_none (by_arity x.operator) ≡ true → steps x (bytes_leaf_at x s records) ≡ ok (some (answer_bytes x.operator x.to []))
-      unary_steps h = go (by_arity x.operator) (sym (operator_of_lem x.operator)) h
-        where
-          go : (a : Operator) → x.operator ≡ operator_of a → takes_none a ≡ true
-              → steps x (leaf_of [] a (contents_at s records x.count)) ≡ ok (some (answer_bytes x.operator x.to []))
-          go (operators.none o) e h = unary_leaf o e
-          go (one o) e h = clash h refl
-          go (many o) e h = clash h refl
+    pub unary_steps : takes_none (by_arity x.sheet.operator) ≡ true → steps x (bytes_leaf_of x) ≡ Ok (some (answer_bytes x.sheet.operator x.to []))
+    unary_steps h = go (by_arity x.sheet.operator) (sym (operator_of_lem x.sheet.operator)) h
+      where
+        go : (a : Operator) → x.sheet.operator ≡ operator_of a → takes_none a ≡ true
+            → steps x (leaf_of [] a (contents_of x.sheet.literals)) ≡ Ok (some (answer_bytes x.sheet.operator x.to []))
+        go (operators.none o) e h = unary_leaf o e
+        go (one o) e h = clash h refl
+        go (many o) e h = clash h refl
 
-      pub set_not_kept : takes_many (by_arity x.operator) ≡ true → keeps x.transform x.question (by_arity x.operator) ≡ false
-          → steps x (bytes_leaf_at x s records) ≡ ok none
-      set_not_kept h k = go (by_arity x.operator) h k
-        where
-          go : (a : Operator) → takes_many a ≡ true → keeps x.transform x.question a ≡ false
-              → steps x (leaf_of [] a (contents_at s records x.count)) ≡ ok none
-          go (operators.none o) h k = clash h refl
-          go (one o) h k = clash h refl
-          go (many o) h k = set_leaf o k (contents_at s records x.count)
+    pub set_not_kept : takes_many (by_arity x.sheet.operator) ≡ true → keeps x.sheet.transform x.question (by_arity x.sheet.operator) ≡ false
+        → steps x (bytes_leaf_of x) ≡ Ok none
+    set_not_kept h k = go (by_arity x.sheet.operator) h k
+      where
+        go : (a : Operator) → takes_many a ≡ true → keeps x.sheet.transform x.question a ≡ false
+            → steps x (leaf_of [] a (contents_of x.sheet.literals)) ≡ Ok none
+        go (operators.none o) h k = clash h refl
+        go (one o) h k = clash h refl
+        go (many o) h k = set_leaf o k (contents_of x.sheet.literals)

@@ -1,7 +1,7 @@
 -- What a leaf with one typed literal is answered, of a row or of a partition value, as the code has it. Assumes nothing.
-use Rattle.std.specs.Prelude.{ℕ, Bool, true, false, List, [], ◌∷◌, ◌⊎◌, ◌≡◌, ℤ, length}
+use Rattle.std.specs.Prelude.{ℕ, Bool, false, List, [], ◌∷◌, ◌⊎◌, ◌≡◌, ℤ, length, Ok}
 use Rattle.std.proofs.Math.IntN.{suc_ℤ}
-use Rattle.values.specs.Outcomes.{Res, ok, ◌>>=◌, Row, missing, present}
+use Rattle.values.specs.Outcomes.{Res, ◌>>=◌, Row, missing, present}
 use Rattle.values.specs.Words.{le_number, signed}
 use Rattle.values.specs.declared.datatypes.PrimitiveType.{PrimitiveType}
 use Rattle.values.specs.declared.transform.Transform.{Transform}
@@ -31,17 +31,17 @@ module _ {A : Type 0} (by : Tests A) (to : Res PrimitiveType) (project : Questio
   part_held question leaf p = do
     type ← to
     q ← project question leaf
-    ok (accepted by question q p)
+    Ok (accepted by question q p)
 
   abbrev pub leaf_held : Asked → Predicate A → Row A → Res Bool
-  leaf_held asked.Row leaf r = ok (holds by leaf r)
+  leaf_held asked.Row leaf r = Ok (holds by leaf r)
   leaf_held (asked.Part question) leaf p = part_held question leaf p
 
   -- an operator that takes one literal, with it; no other operator is met
   abbrev pub one_held : Asked → Operator → A → Row A → Res Bool
-  one_held a (operators.none o) l r = ok false
+  one_held a (operators.none o) l r = Ok false
   one_held a (operators.one o) l r = leaf_held a (test (binary o l)) r
-  one_held a (operators.many o) l r = ok false
+  one_held a (operators.many o) l r = Ok false
 
 -- ---- numbers, read from as many bytes as the content has; and texts
 abbrev pub number_row : Row (List ℕ) → Row ℤ
@@ -64,8 +64,9 @@ meets_two (operators.one o) t r = false
 meets_two (operators.many o) t r = holds number_tests (test (set o (t ∷ suc_ℤ t ∷ []))) r
 
 -- the content of a number, where there is one, has 4 bytes or 8
-abbrev pub NumberSized : Bool → List ℕ → Type 0
-NumberSized there content = there ≡ true → (length content ≡ 4) ⊎ (length content ≡ 8)
+abbrev pub NumberSized : Row (List ℕ) → Type 0
+NumberSized missing = Unit {0}
+NumberSized (present bs) = (length bs ≡ 4) ⊎ (length bs ≡ 8)
 
 -- a value against an operator and its one literal
 abbrev pub meets_row : {A : Type 0} → Tests A → Operator → A → Row A → Bool
@@ -76,4 +77,4 @@ meets_row by o l (present v) = meets_one by o v l
 abbrev pub step_held : {A : Type 0} → Tests A → Question → Res (Projected (Test A)) → Row A → Res Bool
 step_held by question step p = do
   q ← step
-  ok (accepted by question (mapped test q) p)
+  Ok (accepted by question (mapped test q) p)

@@ -1,13 +1,13 @@
 -- What is answered of a row and of a partition value, by the operator, the result type and the transform. Assumes nothing.
-use Rattle.std.specs.Prelude.{ℕ, Bool, true, false, List, ◌≡◌, ℤ}
+use Rattle.std.specs.Prelude.{ℕ, Bool, true, false, List, ◌≡◌, ℤ, Ok, Err}
 use Rattle.std.proofs.Math.Path.{refl}
 use Rattle.std.proofs.Common.{ap}
 use Rattle.values.specs.Order.{compare_numbers, compare_bytes}
-use Rattle.values.specs.Outcomes.{Res, ok, err, ◌>>=◌, Row, missing, present}
+use Rattle.values.specs.Outcomes.{Res, ◌>>=◌, Row, missing, present}
 use Rattle.values.specs.declared.datatypes.PrimitiveType.{PrimitiveType}
 use Rattle.values.specs.declared.error.ErrorKind.{ErrorKind}
 use Rattle.values.specs.declared.error.ErrorKind.TheVariants.{FeatureUnsupported}
-use Rattle.values.specs.declared.order.Ordering.{Ordering}
+use Rattle.std.specs.declared.cmp.Ordering.{Ordering}
 use Rattle.values.specs.declared.transform.Transform.{Transform}
 use Rattle.values.specs.declared.transform.Transform.TheVariants.{Identity, Void, Unknown}
 use Rattle.values.specs.laws.TestLaws.{clash}
@@ -37,31 +37,31 @@ module _ {A : Type 0} (by : Tests A) where
 
   -- what a step gave with one literal
   pub step_one : (question : Question) (a : Operator) (l : A) (p : Row A) → takes_one a ≡ true
-      → step_held by question (ok (one_test a l)) p ≡ ok (meets_row by a l p)
+      → step_held by question (Ok (one_test a l)) p ≡ Ok (meets_row by a l p)
   step_one question (operators.none o) l p h = clash h refl
-  step_one question (one o) l p h = ap ok (meets_row_lem o l p)
+  step_one question (one o) l p h = ap Ok (meets_row_lem o l p)
   step_one question (operators.many o) l p h = clash h refl
 
   module _ (to : Res PrimitiveType) (project : Question → Predicate A → Res (Projected (Predicate A))) where
-    row_held : (a : Operator) (l : A) (r : Row A) → takes_one a ≡ true → one_held by to project asked.Row a l r ≡ ok (meets_row by a l r)
+    row_held : (a : Operator) (l : A) (r : Row A) → takes_one a ≡ true → one_held by to project asked.Row a l r ≡ Ok (meets_row by a l r)
     row_held (operators.none o) l r h = clash h refl
-    row_held (one o) l r h = ap ok (meets_row_lem o l r)
+    row_held (one o) l r h = ap Ok (meets_row_lem o l r)
     row_held (operators.many o) l r h = clash h refl
 
 -- and with a set of two
 pub step_two : (question : Question) (a : Operator) (t : ℤ) (p : Row ℤ) → takes_many a ≡ true
-    → step_held number_tests question (ok (two_test a t)) p ≡ ok (meets_two a t p)
+    → step_held number_tests question (Ok (two_test a t)) p ≡ Ok (meets_two a t p)
 step_two question (operators.none o) t p h = clash h refl
 step_two question (one o) t p h = clash h refl
 step_two question (operators.many o) t p h = refl
 
 -- ---- a partition value's answer: 5, Unknown's 7, what is answered without a predicate, by the leaf itself, and by its step
 pub record PartAnswer (answer : Res Bool) (to : Res PrimitiveType) (transform : Transform) (without itself : Bool) (step : Res Bool) : Type 0 where
-  pub no_type : (e : ErrorKind) → to ≡ err e → answer ≡ err e
-  pub unknown : (type : PrimitiveType) → to ≡ ok type → transform ≡ Unknown → answer ≡ err FeatureUnsupported
-  pub void : (type : PrimitiveType) → to ≡ ok type → transform ≡ Void → answer ≡ ok without
-  pub identity : (type : PrimitiveType) → to ≡ ok type → transform ≡ Identity → answer ≡ ok itself
-  pub stepped : (type : PrimitiveType) → to ≡ ok type → has_steps transform ≡ true → is_identity transform ≡ false → answer ≡ step
+  pub no_type : (e : ErrorKind) → to ≡ Err e → answer ≡ Err e
+  pub unknown : (type : PrimitiveType) → to ≡ Ok type → transform ≡ Unknown → answer ≡ Err FeatureUnsupported
+  pub void : (type : PrimitiveType) → to ≡ Ok type → transform ≡ Void → answer ≡ Ok without
+  pub identity : (type : PrimitiveType) → to ≡ Ok type → transform ≡ Identity → answer ≡ Ok itself
+  pub stepped : (type : PrimitiveType) → to ≡ Ok type → has_steps transform ≡ true → is_identity transform ≡ false → answer ≡ step
 
 module _ {A : Type 0} (by : Tests A) (compare : A → A → Ordering) (step : Question → Test A → Res (Projected (Test A))) (question : Question) (o : Binary)
     (l : A) (p : Row A) (to : Res PrimitiveType) (transform : Transform) where
@@ -71,9 +71,9 @@ module _ {A : Type 0} (by : Tests A) (compare : A → A → Ordering) (step : Qu
   abbrev project : Question → Predicate A → Res (Projected (Predicate A))
   project q f = by_transform compare (step q) transform f
 
-  by_step : (r : Res (Projected (Test A))) → ((r >>= λ q. ok (mapped test q)) >>= λ q. ok (accepted by question q p)) ≡ step_held by question r p
-  by_step (ok q) = refl
-  by_step (err e) = refl
+  by_step : (r : Res (Projected (Test A))) → ((r >>= λ q. Ok (mapped test q)) >>= λ q. Ok (accepted by question q p)) ≡ step_held by question r p
+  by_step (Ok q) = refl
+  by_step (Err e) = refl
 
   part_answer_lem : PartAnswer (leaf_held by to project (asked.Part question) leaf p) to transform
       (without_predicate question) (meets_row by (one o) l p) (step_held by question (step question (binary o l)) p)
@@ -81,7 +81,7 @@ module _ {A : Type 0} (by : Tests A) (compare : A → A → Ordering) (step : Qu
     no_type = λ e t. rw t;
     unknown = λ type t is. rw (t, is);
     void = λ type t is. rw (t, is);
-    identity = λ type t is. rw (t, is) (ap ok (meets_row_lem by o l p));
+    identity = λ type t is. rw (t, is) (ap Ok (meets_row_lem by o l p));
     stepped = λ type t known other. rw (t, steps_through compare (step question) transform leaf known other) (by_step (step question (binary o l)));
   }
 
@@ -93,7 +93,7 @@ NumberPart question column transform a l r =
     (step_held number_tests question (number_leaf question column transform a l) (number_row r))
 
 module _ (column : PrimitiveType) (transform : Transform) (l : ℤ) (r : Row (List ℕ)) where
-  pub number_of_row : (a : Operator) → takes_one a ≡ true → number_answer asked.Row column transform a l r ≡ ok (meets_row number_tests a l (number_row r))
+  pub number_of_row : (a : Operator) → takes_one a ≡ true → number_answer asked.Row column transform a l r ≡ Ok (meets_row number_tests a l (number_row r))
   unfolding number_answer
   number_of_row a h = row_held number_tests (result_type transform column) (λ q leaf. project_numbers q column transform leaf) a l (number_row r) h
 
@@ -112,7 +112,7 @@ TextPart question column transform a l r =
     (step_held bytes_tests question (bytes_leaf question column transform a l) r)
 
 module _ (column : PrimitiveType) (transform : Transform) (l : List ℕ) (r : Row (List ℕ)) where
-  pub text_of_row : (a : Operator) → takes_one a ≡ true → text_answer asked.Row column transform a l r ≡ ok (meets_row bytes_tests a l r)
+  pub text_of_row : (a : Operator) → takes_one a ≡ true → text_answer asked.Row column transform a l r ≡ Ok (meets_row bytes_tests a l r)
   unfolding text_answer
   text_of_row a h = row_held bytes_tests (result_type transform column) (λ q leaf. project_bytes q column transform leaf) a l r h
 

@@ -7,7 +7,7 @@ use Rattle.std.proofs.lemmas.Bool.{not-true}
 use Rattle.values.specs.SomeEvery.{some}
 use Rattle.values.specs.Ascending.{elem}
 use Rattle.values.specs.Order.{compare_bytes, is_less, is_equal}
-use Rattle.values.specs.declared.order.Ordering.TheVariants.{Less, Equal}
+use Rattle.std.specs.declared.cmp.Ordering.TheVariants.{Less, Equal}
 use Rattle.values.specs.laws.OrderLaws.{is_less_lem, not_below, at_most_less, less_at_most, at_most_both, asymmetric, connected, bytes_order}
 use Rattle.values.specs.laws.TestLaws.{refuted, clash, not_not, or_cases, and_both}
 use Rattle.expr.specs.Holds.{bytes_tests, binary_meets, set_meets, present_meets}

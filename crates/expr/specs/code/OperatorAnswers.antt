@@ -1,17 +1,14 @@
 -- What each enum of the code says, as the definitions have it. Assumes nothing.
 use Rattle.std.specs.Prelude.{ℕ, Bool, true, false, not, List, [], ◌∷◌, ◌==◌}
-use Rattle.values.specs.Outcomes.{Res, ok, err}
 use Rattle.values.specs.Order.{is_less, is_equal}
 use Rattle.values.specs.code.Places.{flip}
-use Rattle.values.specs.declared.order.Ordering.{Ordering}
+use Rattle.std.specs.declared.cmp.Ordering.{Ordering}
 use Rattle.expr.specs.Operators.{Operator, none, one, many}
 use Rattle.expr.specs.Operators as operators
 use Rattle.expr.specs.Holds.{Tests, binary_meets}
 use Rattle.expr.specs.Predicates.{Predicate, unary, test, binary, set}
 use Rattle.expr.specs.declared.operator.PredicateOperator.{PredicateOperator}
 use Rattle.expr.specs.declared.operator.PredicateOperator.TheVariants.{IsNull, NotNull, IsNan, NotNan, LessThan, LessThanOrEq, GreaterThan, GreaterThanOrEq, Eq, NotEq, StartsWith, NotStartsWith, In, NotIn}
-use Rattle.expr.specs.declared.operator.OperatorResult.{OperatorResult}
-use Rattle.expr.specs.declared.operator.OperatorResult.TheVariants as operator-result
 
 -- the Rust's `negate`
 abbrev pub negated : PredicateOperator → PredicateOperator
@@ -58,10 +55,6 @@ abbrev pub takes_many : Operator → Bool
 takes_many (none o) = false
 takes_many (one o) = false
 takes_many (many o) = true
-
-abbrev pub operator_result : Res PredicateOperator → OperatorResult
-operator_result (ok o) = operator-result.Ok o
-operator_result (err e) = operator-result.Err e
 
 -- a present value against the one literal of an operator that takes one
 abbrev pub meets_one : {A : Type 0} → Tests A → Operator → A → A → Bool

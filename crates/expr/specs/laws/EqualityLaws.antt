@@ -5,7 +5,7 @@ use Rattle.std.proofs.Common.{sym, ap, ◌∙◌}
 use Rattle.values.specs.Ascending.{ascending}
 use Rattle.values.specs.laws.AscendingLaws.{elem_iff, elem_ascending}
 use Rattle.values.specs.laws.OrderLaws.{is_equal_lem, number_order, bytes_order}
-use Rattle.values.specs.declared.order.Ordering.TheVariants.{Equal}
+use Rattle.std.specs.declared.cmp.Ordering.TheVariants.{Equal}
 use Rattle.expr.specs.Holds.{Tests, number_tests, bytes_tests, meets}
 use Rattle.expr.specs.Operators.{eq, is_in}
 use Rattle.expr.specs.Predicates.{binary, set}

@@ -6,7 +6,7 @@ use Rattle.values.specs.Ascending.{elem, ascending}
 use Rattle.values.specs.laws.AscendingLaws.{elem_ascending}
 use Rattle.values.specs.Outcomes.{missing}
 use Rattle.values.specs.laws.TestLaws.{not_not}
-use Rattle.values.specs.declared.order.Ordering.TheVariants.{Equal}
+use Rattle.std.specs.declared.cmp.Ordering.TheVariants.{Equal}
 use Rattle.expr.specs.Holds.{Tests, missing_meets, set_meets, meets, present_meets, holds}
 use Rattle.expr.specs.Operators as operators
 use Rattle.expr.specs.code.OperatorAnswers.{negated, leaf_of}

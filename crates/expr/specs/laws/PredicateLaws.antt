@@ -1,10 +1,9 @@
 -- Operators have one number each and predicates one operator and one list of literals each: what is written of them can be read back.
 -- Assumes nothing.
-use Rattle.std.specs.Prelude.{ℕ, suc, true, false, List, [], ◌∷◌, ◌≡◌, refl, eqb, length}
+use Rattle.std.specs.Prelude.{ℕ, suc, true, false, List, [], ◌∷◌, ◌≡◌, refl, eqb, length, Ok}
 use Rattle.std.proofs.Common.{arith, true≢false, ◌∙◌, eqb-true}
 use Rattle.std.proofs.lemmas.Bool.{false≢true}
 use Rattle.values.specs.Numbered.{find}
-use Rattle.values.specs.Outcomes.{ok}
 use Rattle.values.specs.laws.OutcomeLaws.{ok_inj, ok_not_err}
 use Rattle.values.specs.laws.TypesLaws.{found_number}
 use Rattle.expr.specs.Operators.{operators, operator_number, Operator, none, one, many, by_arity, operator_of}
@@ -15,7 +14,7 @@ use Rattle.expr.specs.declared.operator.PredicateOperator.{PredicateOperator}
 use Rattle.expr.specs.declared.operator.PredicateOperator.TheVariants.{IsNull, NotNull, IsNan, NotNan, LessThan, LessThanOrEq, GreaterThan, GreaterThanOrEq, Eq, NotEq, StartsWith, NotStartsWith, In, NotIn}
 
 -- ---- numbers
-pub operator_found : (o : PredicateOperator) → find operators (operator_number o) ≡ ok o
+pub operator_found : (o : PredicateOperator) → find operators (operator_number o) ≡ Ok o
 operator_found IsNull = refl
 operator_found NotNull = refl
 operator_found IsNan = refl
@@ -31,7 +30,7 @@ operator_found NotStartsWith = refl
 operator_found In = refl
 operator_found NotIn = refl
 
-pub operator_number_lem : (n : ℕ) (o : PredicateOperator) → find operators n ≡ ok o → operator_number o ≡ n
+pub operator_number_lem : (n : ℕ) (o : PredicateOperator) → find operators n ≡ Ok o → operator_number o ≡ n
 operator_number_lem n o e =
     found_number
     operator_number
@@ -115,7 +114,7 @@ takes_negated NotIn n = refl
 
 -- ---- predicates
 module _ {A : Type 0} where
-  pub predicate_back : (p : Predicate A) → predicate (operator_in p) (literals_in p) ≡ ok p
+  pub predicate_back : (p : Predicate A) → predicate (operator_in p) (literals_in p) ≡ Ok p
   predicate_back (unary o) = rw (arity_of (none o))
   predicate_back (test (binary o l)) = rw (arity_of (one o))
   predicate_back (test (set o ls)) = rw (arity_of (many o))
@@ -152,7 +151,7 @@ module _ {A : Type 0} where
   other_literal d e (one o) (l ∷ ls) h = refl
   other_literal d e (many o) ls h = refl
 
-  with_literals_lem : (a : Operator) (ls : List A) (p : Predicate A) → with_literals a ls ≡ ok p → (operator_in p ≡ operator_of a) × (literals_in p ≡ ls)
+  with_literals_lem : (a : Operator) (ls : List A) (p : Predicate A) → with_literals a ls ≡ Ok p → (operator_in p ≡ operator_of a) × (literals_in p ≡ ls)
   with_literals_lem (none o) [] p e = rw (← ok_inj e) (refl, refl)
   with_literals_lem (none o) (l ∷ ls) p e = ok_not_err e
   with_literals_lem (one o) [] p e = ok_not_err e
@@ -160,5 +159,5 @@ module _ {A : Type 0} where
   with_literals_lem (one o) (l ∷ k ∷ ls) p e = ok_not_err e
   with_literals_lem (many o) ls p e = rw (← ok_inj e) (refl, refl)
 
-  pub predicate_parts : (o : PredicateOperator) (ls : List A) (p : Predicate A) → predicate o ls ≡ ok p → (operator_in p ≡ o) × (literals_in p ≡ ls)
+  pub predicate_parts : (o : PredicateOperator) (ls : List A) (p : Predicate A) → predicate o ls ≡ Ok p → (operator_in p ≡ o) × (literals_in p ≡ ls)
   predicate_parts o ls p e = let h = with_literals_lem (by_arity o) ls p e in (h.0 ∙ operator_of_lem o, h.1)

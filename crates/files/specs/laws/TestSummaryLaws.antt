@@ -1,7 +1,7 @@
 -- The test of a summary gives only the answers that document 02 names. Assumes nothing.
-use Rattle.std.specs.Prelude.{ℕ, Bool, true, false, cond, List, ◌⊎◌, ◌≡◌, refl, ltb, length}
+use Rattle.std.specs.Prelude.{ℕ, Bool, true, false, cond, List, ◌⊎◌, ◌≡◌, refl, ltb, length, Ok, Err}
 use Rattle.std.proofs.Common.{inl, inr, ap}
-use Rattle.values.specs.Outcomes.{Res, ok, err, error_number}
+use Rattle.values.specs.Outcomes.{Res, error_number}
 use Rattle.values.specs.Types.{same_type}
 use Rattle.values.specs.declared.datatypes.PrimitiveType.{PrimitiveType}
 use Rattle.values.specs.declared.error.ErrorKind.{ErrorKind}
@@ -10,8 +10,8 @@ use Rattle.expr.specs.Operators.{holds_limit}
 use Rattle.expr.specs.Predicates.{Predicate}
 use Rattle.sheet.specs.Sheets.{sheet}
 use Rattle.sheet.specs.laws.RefusalLaws.{Only, only_ok, only_bind, only_need, malformed, sheet_only}
-use Rattle.answers.specs.Answers.{answer_of, answer_number}
-use Rattle.answers.specs.declared.answer.Answer.TheVariants.{BufferTooSmall}
+use Rattle.answers.specs.Answers.{answer_of, refused_as, answer_number}
+use Rattle.answers.specs.declared.answer.Refusal.TheVariants.{BufferTooSmall}
 use Rattle.summary.specs.EndValues.{compare_in, ordered}
 use Rattle.summary.specs.code.SummaryAnswers.{ends_encoded}
 use Rattle.summary.specs.laws.SummaryLaws.{summary_only}
@@ -48,7 +48,7 @@ answers s f out = go (ltb (length out) verdict_buffer) (test_summary s f) (test_
     refusal (inr (inr is)) = inr (inr (ap error_number is))
 
     go : (small : Bool) (r : Res Verdict) → Only Refusal r
-        → let n = answer_number (cond small BufferTooSmall (answer_of (verdict_byte r))) in (n ≡ 0) ⊎ ((n ≡ 2) ⊎ ((n ≡ 3) ⊎ ((n ≡ 4) ⊎ (n ≡ 11))))
+        → let n = answer_number (cond small (Err BufferTooSmall) (refused_as (answer_of (verdict_byte r)))) in (n ≡ 0) ⊎ ((n ≡ 2) ⊎ ((n ≡ 3) ⊎ ((n ≡ 4) ⊎ (n ≡ 11))))
     go true r h = inr (inl refl)
-    go false (ok v) h = inl refl
-    go false (err e) h = inr (inr (refusal (h.only e refl)))
+    go false (Ok v) h = inl refl
+    go false (Err e) h = inr (inr (refusal (h.only e refl)))

@@ -1,23 +1,20 @@
 -- A filter gives a row only the numbers that document 02 names, and no filter gives 2. Assumes nothing.
-use Rattle.std.specs.Prelude.{ℕ, suc, ◌*◌, Bool, true, false, not, ◌&&◌, ◌||◌, List, [], ◌∷◌, map, ◌⊎◌, ◌≡◌, refl, leb, eqb}
+use Rattle.std.specs.Prelude.{ℕ, suc, ◌*◌, Bool, true, false, not, ◌&&◌, ◌||◌, List, [], ◌∷◌, map, ◌⊎◌, ◌≡◌, refl, leb, eqb, Ok, Err}
 use Rattle.std.proofs.Common.{arith, inl, inr, ap}
 use Rattle.std.proofs.Math.ListN.{length}
-use Rattle.values.specs.Outcomes.{Res, ok, err, error_number, each}
+use Rattle.values.specs.Outcomes.{Res, error_number, each}
 use Rattle.values.specs.Types.{layout, same_type}
 use Rattle.values.specs.laws.ErrorLaws.{error_range}
 use Rattle.values.specs.declared.datatypes.PrimitiveType.TheVariants.{String}
 use Rattle.values.specs.declared.error.ErrorKind.{ErrorKind}
 use Rattle.values.specs.declared.error.ErrorKind.TheVariants.{Malformed, NotUtf8, OutsideGrammar, TooLarge}
-use Rattle.expr.specs.Operators.{by_arity}
-use Rattle.expr.specs.Predicates.{operator_in, literals_in}
 use Rattle.projection.specs.declared.question.Question.{Question}
 use Rattle.sheet.specs.Records.{record_size, record_at, value}
 use Rattle.sheet.specs.code.Contents.{row_utf8}
 use Rattle.sheet.specs.laws.ReadLaws.{bytes_row}
 use Rattle.sheet.specs.laws.RefusalLaws.{Only, only_ok, only_err, only_bind, only_need, only_wider, only_each, malformed, value_only}
-use Rattle.meets.specs.Tested.{held_as, held_number}
-use Rattle.meets.specs.laws.HeldLaws as tests
-use Rattle.meets.specs.laws.HeldLaws.{tested_held, held_only}
+use Rattle.meets.specs.Tested.{held_number}
+use Rattle.meets.specs.laws.TestedLaws.{Refusal, tested_only}
 use Rattle.columns.specs.Columns.{Column, columns}
 use Rattle.columns.specs.Cells.{Side, rows, type_of, Cell, cells_from, read_cell, cells_of}
 use Rattle.columns.specs.laws.ColumnLaws.{columns_only}
@@ -87,12 +84,9 @@ text_only cs t =
 -- ---- the leaves: the holds-test gives 3 and 4 only
 leaf_only : (cells : List Cell) (l : Leaf) → Only ReadRefusal (row_answer cells l)
 unfolding row_answer
-leaf_only cells l =
-    let x = sheet_of l in
-    let row = row_at cells l.place in
-    rw (tested_held x row) (only_wider among (held_only x.head.column (by_arity (operator_in x.leaf)) (literals_in x.leaf) row))
+leaf_only cells l = only_wider among (tested_only (sheet_of l) (row_at cells l.place))
   where
-    among : (e : ErrorKind) → tests.Refusal e → ReadRefusal e
+    among : (e : ErrorKind) → Refusal e → ReadRefusal e
     among e (inl is) = inl (ap error_number is)
     among e (inr is) = inr (inl (ap error_number is))
 
@@ -113,20 +107,20 @@ row_only c t v =
 
 -- a row's filter gives 0, 1, 3, 4, 9 and 10 only
 pub row_answers : (c t v : List ℕ)
-    → let n = held_number (held_as (filter_row c t v)) in (n ≡ 0) ⊎ ((n ≡ 1) ⊎ ((n ≡ 3) ⊎ ((n ≡ 4) ⊎ ((n ≡ 9) ⊎ (n ≡ 10)))))
+    → let n = held_number (filter_row c t v) in (n ≡ 0) ⊎ ((n ≡ 1) ⊎ ((n ≡ 3) ⊎ ((n ≡ 4) ⊎ ((n ≡ 9) ⊎ (n ≡ 10)))))
 row_answers c t v = go (filter_row c t v) (row_only c t v)
   where
     go : (r : Res Bool) → Only ReadRefusal r
-        → let n = held_number (held_as r) in (n ≡ 0) ⊎ ((n ≡ 1) ⊎ ((n ≡ 3) ⊎ ((n ≡ 4) ⊎ ((n ≡ 9) ⊎ (n ≡ 10)))))
-    go (ok true) h = inl refl
-    go (ok false) h = inr (inl refl)
-    go (err e) h = inr (inr (h.only e refl))
+        → let n = held_number r in (n ≡ 0) ⊎ ((n ≡ 1) ⊎ ((n ≡ 3) ⊎ ((n ≡ 4) ⊎ ((n ≡ 9) ⊎ (n ≡ 10)))))
+    go (Ok true) h = inl refl
+    go (Ok false) h = inr (inl refl)
+    go (Err e) h = inr (inr (h.only e refl))
 
 -- 2 is the buffer's, and filters have none
-pub no_buffer : (question : Question) (c t v : List ℕ) → (held_number (held_as (filter_parts question c t v)) ≡ 2) → ⊥
+pub no_buffer : (question : Question) (c t v : List ℕ) → (held_number (filter_parts question c t v) ≡ 2) → ⊥
 no_buffer question c t v = go (filter_parts question c t v)
   where
-    go : (r : Res Bool) → held_number (held_as r) ≡ 2 → ⊥
-    go (ok true) e = omega arith
-    go (ok false) e = omega arith
-    go (err k) e = omega (arith, error_range k)
+    go : (r : Res Bool) → held_number r ≡ 2 → ⊥
+    go (Ok true) e = omega arith
+    go (Ok false) e = omega arith
+    go (Err k) e = omega (arith, error_range k)

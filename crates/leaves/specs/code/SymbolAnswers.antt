@@ -1,135 +1,126 @@
 -- What the code's enums and structs say, as the definitions have it. Assumes nothing.
-use Rattle.std.specs.Prelude.{ℕ, ◌-◌, ◌≤◌, ◌<◌, Bool, true, false, cond, not, ◌||◌, List, [], ◌∷◌, ◌≡◌, ℤ, pos, length, drop}
-use Rattle.std.proofs.Math.Option.{Option, some, none}
-use Rattle.values.specs.Types.{bytes, layout, content_size, in_type, same_type}
-use Rattle.values.specs.Utf8.{utf8}
-use Rattle.values.specs.Words.{field}
+use Rattle.std.specs.Prelude.{ℕ, ◌≤◌, ◌<◌, true, cond, List, [], ◌∷◌, ◌≡◌, Option, Some, None, option_and_then, length, drop}
+use Rattle.std.proofs.Math.Option as maybe
+use Rattle.values.specs.Characters.{following}
 use Rattle.values.specs.declared.datatypes.PrimitiveType.{PrimitiveType}
-use Rattle.values.specs.declared.datatypes.PrimitiveType.TheVariants.{String}
 use Rattle.expr.specs.Operators.{Binary, one, by_arity}
 use Rattle.expr.specs.declared.operator.PredicateOperator.{PredicateOperator}
-use Rattle.expr.specs.declared.operator.PredicateOperator.TheVariants.{Eq}
 use Rattle.columns.specs.Columns.{Column}
-use Rattle.columns.specs.code.ColumnAnswers.{column_at}
-use Rattle.tokens.specs.Tokens.{Token}
+use Rattle.columns.specs.code.ColumnAnswers.{column_at, place_of}
+use Rattle.tokens.specs.Tokens.{Taken, taken, token, is_space}
+use Rattle.tokens.specs.code.TokenAnswers.{part, IsPart}
+use Rattle.tokens.specs.declared.token.Span.{Span}
 use Rattle.grammar.specs.Grammar.{Symbol, leaf_of, and_word, or_word, not_word, opening, closing, unreadable}
-use Rattle.leaves.specs.Fitting.{Literal, decimal, Leaf, fits, content_of}
-use Rattle.leaves.specs.Symbols.{Read, read, or_else, after_spaces, as_operator, as_literal, of_word, symbols}
+use Rattle.leaves.specs.Fitting.{Literal, decimal, text, Leaf, fits, content_of}
+use Rattle.leaves.specs.Symbols.{Read, read, as_operator, as_literal, of_word, symbols}
 use Rattle.leaves.specs.declared.leaf.Leaf as declared-leaf
+use Rattle.leaves.specs.declared.leaf.Literal as declared-literal
+use Rattle.leaves.specs.declared.leaf.Literal.TheVariants.{Number, Text}
 use Rattle.leaves.specs.declared.symbol.Symbol as declared
-use Rattle.leaves.specs.declared.symbol.SymbolKind.{SymbolKind}
-use Rattle.leaves.specs.declared.symbol.SymbolKind.TheVariants as kind
+use Rattle.leaves.specs.declared.symbol.Symbol.TheVariants as kind
 
--- ---- the structs as they are made
+-- ---- what the definitions find, with the text after it
 
-abbrev pub number_leaf : ℕ → PredicateOperator → ℤ → declared-leaf.Leaf
-number_leaf place operator number = record { place = place; operator = operator; is_text = false; number = number; from = 0; to = 0 }
+abbrev pub token_in : List ℕ → Taken
+token_in s = token (following is_space s)
 
-abbrev pub text_leaf : ℕ → PredicateOperator → ℕ → ℕ → declared-leaf.Leaf
-text_leaf place operator from to = record { place = place; operator = operator; is_text = true; number = pos 0; from = from; to = to }
+abbrev pub with_rest : {A : Type 0} → List ℕ → maybe.Option A → Option (A × List ℕ)
+with_rest rest maybe.none = None
+with_rest rest (maybe.some x) = Some (x, rest)
 
-abbrev pub of_leaf : declared-leaf.Leaf → ℕ → declared.Symbol
-of_leaf leaf next = record { kind = kind.Leaf; leaf = leaf; next = next }
+abbrev pub operator_in : Taken → Option (Binary × List ℕ)
+operator_in (taken t rest) = with_rest rest (as_operator t)
 
-abbrev pub plain : SymbolKind → ℕ → declared.Symbol
-plain k next = record { kind = k; leaf = number_leaf 0 Eq (pos 0); next = next }
+abbrev pub fitting : PrimitiveType → Literal × List ℕ → Option (Literal × List ℕ)
+fitting column x = cond (fits column x.0) (Some x) None
 
--- ---- leaves
+abbrev pub literal_in : PrimitiveType → Taken → Option (Literal × List ℕ)
+literal_in column (taken t rest) = option_and_then (fitting column) (with_rest rest (as_literal t))
 
--- a text of s, as the content of a leaf's literal
-pub record IsText (column : PrimitiveType) (s content : List ℕ) (x : declared-leaf.Leaf) : Type 0 where
-  pub forward : x.from ≤ x.to
-  pub within : x.to ≤ length s
-  pub is : content ≡ field x.from (x.to - x.from) s
-  pub texts : layout column ≡ bytes content_size
-  pub short : length content ≤ content_size
-  pub encoded : (not (same_type column String) || utf8 content) ≡ true
+-- a leaf of the column d at place k, with what is left after its literal
+abbrev pub leaf_with : ℕ → Column → Binary → Literal × List ℕ → Leaf × List ℕ
+leaf_with k d o l = (record { place = k; head = d.head; operator = o; content = content_of d.head.column l.0 }, l.1)
 
-pub record IsNumber (column : PrimitiveType) (content : List ℕ) (x : declared-leaf.Leaf) : Type 0 where
-  pub is : content ≡ content_of column (decimal x.number)
-  pub holds : in_type column x.number ≡ true
+-- from its operator on
+abbrev pub leaf_on : ℕ → Column → Taken → Option (Leaf × List ℕ)
+leaf_on k d t =
+    option_and_then (λ o. option_and_then (λ l. Some (leaf_with k d o.0 l)) (literal_in d.head.column (token_in o.1))) (operator_in t)
+
+abbrev pub leaf_in : List Column → List ℕ → List ℕ → Option (Leaf × List ℕ)
+leaf_in cs name s = option_and_then (λ k. leaf_on k (column_at cs k) (token_in s)) (place_of name cs)
+
+-- ---- what the code finds from `at` on, with where the text after it begins
+
+abbrev pub Finds : {X Y : Type 0} → (X → Y → Type 0) → List ℕ → ℕ → Option (X × ℕ) → Option (Y × List ℕ) → Type 0
+Finds is s at None found = found ≡ None
+Finds {Y = Y} is s at (Some x) found = (y : Y) × is x.0 y × (found ≡ Some (y, drop x.1 s)) × (at < x.1) × (x.1 ≤ length s)
+
+abbrev pub OperatorAt : List ℕ → ℕ → Option (PredicateOperator × ℕ) → Type 0
+OperatorAt s at r = Finds (λ x o. by_arity x ≡ one o) s at r (operator_in (token_in (drop at s)))
+
+-- a literal in the text s, and that it lies there
+abbrev pub literal_of : List ℕ → declared-literal.Literal → Literal
+literal_of s (Number z) = decimal z
+literal_of s (Text p) = text (part s p)
+
+abbrev pub Lies : List ℕ → declared-literal.Literal → Type 0
+Lies s (Number z) = Unit {0}
+Lies s (Text p) = IsPart s p
+
+abbrev pub LiteralAt : PrimitiveType → List ℕ → ℕ → Option (declared-literal.Literal × ℕ) → Type 0
+LiteralAt column s at r =
+    Finds (λ x l. Lies s x × (l ≡ literal_of s x) × (fits column l ≡ true)) s at r (literal_in column (token_in (drop at s)))
 
 -- x is the leaf l of the text s
-pub record IsLeaf (cs : List Column) (s : List ℕ) (l : Leaf) (x : declared-leaf.Leaf) : Type 0 where
+pub record IsLeaf (cs : List Column) (s : List ℕ) (x : declared-leaf.Leaf) (l : Leaf) : Type 0 where
   pub place : l.place ≡ x.place
   pub placed : x.place < length cs
   pub head : l.head ≡ (column_at cs x.place).head
   pub operator : by_arity x.operator ≡ one l.operator
-  pub text : x.is_text ≡ true → IsText l.head.column s l.content x
-  pub number : x.is_text ≡ false → IsNumber l.head.column l.content x
+  pub lies : Lies s x.literal
+  pub fitted : fits l.head.column (literal_of s x.literal) ≡ true
+  pub content : l.content ≡ content_of l.head.column (literal_of s x.literal)
+
+abbrev pub LeafAt : List Column → List ℕ → List ℕ → ℕ → Option (declared-leaf.Leaf × ℕ) → Type 0
+LeafAt cs name s at r = Finds (IsLeaf cs s) s at r (leaf_in cs name (drop at s))
 
 -- ---- symbols
 
--- r is the symbol y of the text s
-abbrev pub Is : List Column → List ℕ → Symbol Leaf → declared.Symbol → Type 0
-Is cs s (leaf_of l) r = (r.kind ≡ kind.Leaf) × IsLeaf cs s l r.leaf
-Is cs s and_word r = r.kind ≡ kind.And
-Is cs s or_word r = r.kind ≡ kind.Or
-Is cs s not_word r = r.kind ≡ kind.Not
-Is cs s opening r = r.kind ≡ kind.Opening
-Is cs s closing r = r.kind ≡ kind.Closing
-Is cs s unreadable r = r.kind ≡ kind.Unreadable
+-- a symbol takes a byte at least, but the end of the text
+abbrev pub Onward : declared.Symbol → ℕ → ℕ → Type 0
+Onward kind.End at next = at ≤ next
+Onward k at next = at < next
 
--- what is said of the text after a symbol: after what is unreadable, nothing
-abbrev pub Unless : Symbol Leaf → Type 0 → Type 0
-Unless (leaf_of l) holds = holds
-Unless and_word holds = holds
-Unless or_word holds = holds
-Unless not_word holds = holds
-Unless opening holds = holds
-Unless closing holds = holds
-Unless unreadable holds = Unit {0}
+-- k and the text from `next` on are what was read; after what is unreadable, nothing is said
+abbrev pub IsRead : List Column → List ℕ → declared.Symbol → ℕ → Read → Type 0
+IsRead cs s kind.End next x = ⊥
+IsRead cs s (kind.Leaf leaf) next x = (l : Leaf) × IsLeaf cs s leaf l × (x ≡ read (leaf_of l) (drop next s))
+IsRead cs s kind.And next x = x ≡ read and_word (drop next s)
+IsRead cs s kind.Or next x = x ≡ read or_word (drop next s)
+IsRead cs s kind.Not next x = x ≡ read not_word (drop next s)
+IsRead cs s kind.Opening next x = x ≡ read opening (drop next s)
+IsRead cs s kind.Closing next x = x ≡ read closing (drop next s)
+IsRead cs s kind.Unreadable next x = (rest : List ℕ) × (x ≡ read unreadable rest)
 
--- r is the first of the symbols, and the others are those of the text after it
-abbrev pub Begins : List Column → List ℕ → declared.Symbol → List (Symbol Leaf) → Type 0
-Begins cs s r [] = r.kind ≡ kind.End
-Begins cs s r (y ∷ ys) = Is cs s y r × Unless y (ys ≡ symbols cs (drop r.next s))
+-- what begins with a word that ends before `next`
+pub record WordAt (cs : List Column) (s : List ℕ) (word : Span) (next : ℕ) (r : declared.Symbol × ℕ) : Type 0 where
+  pub is : IsRead cs s r.0 r.1 (of_word cs (part s word) (drop next s))
+  pub forward : next ≤ r.1
+  pub within : r.1 ≤ length s
 
-abbrev pub is_symbol : SymbolKind → Bool
-is_symbol kind.End = false
-is_symbol kind.Leaf = true
-is_symbol kind.And = true
-is_symbol kind.Or = true
-is_symbol kind.Not = true
-is_symbol kind.Opening = true
-is_symbol kind.Closing = true
-is_symbol kind.Unreadable = false
+-- the symbols ts are k, and those of the text from `next` on
+abbrev pub Opens : List Column → List ℕ → declared.Symbol → ℕ → List (Symbol Leaf) → Type 0
+Opens cs s kind.End next ts = ts ≡ []
+Opens cs s (kind.Leaf leaf) next ts = (l : Leaf) × IsLeaf cs s leaf l × (ts ≡ leaf_of l ∷ symbols cs (drop next s))
+Opens cs s kind.And next ts = ts ≡ and_word ∷ symbols cs (drop next s)
+Opens cs s kind.Or next ts = ts ≡ or_word ∷ symbols cs (drop next s)
+Opens cs s kind.Not next ts = ts ≡ not_word ∷ symbols cs (drop next s)
+Opens cs s kind.Opening next ts = ts ≡ opening ∷ symbols cs (drop next s)
+Opens cs s kind.Closing next ts = ts ≡ closing ∷ symbols cs (drop next s)
+Opens cs s kind.Unreadable next ts = (others : List (Symbol Leaf)) × (ts ≡ unreadable ∷ others)
 
--- r is the first symbol of the text from `at` on
-pub record Symbolises (cs : List Column) (s : List ℕ) (at : ℕ) (r : declared.Symbol) : Type 0 where
-  pub is : Begins cs s r (symbols cs (drop at s))
-  pub forward : is_symbol r.kind ≡ true → at < r.next
-  pub within : r.next ≤ length s
-
--- ---- on the way: what was read, and r, which is it
-
-abbrev pub ReadAs : List Column → List ℕ → declared.Symbol → Read → Type 0
-ReadAs cs s r (read y rest) = Is cs s y r × Unless y (drop r.next s ≡ rest)
-
-pub record Gives (cs : List Column) (s : List ℕ) (at : ℕ) (r : declared.Symbol) (x : Read) : Type 0 where
-  pub is : ReadAs cs s r x
-  pub forward : is_symbol r.kind ≡ true → at ≤ r.next
-  pub within : r.next ≤ length s
-
--- the leaf of the column d at place k
-abbrev pub leaf_on : ℕ → Column → Binary → Literal → Option Leaf
-leaf_on k d o l =
-    let leaf : Leaf = record { place = k; head = d.head; operator = o; content = content_of d.head.column l } in
-    cond (fits d.head.column l) (some leaf) none
-
--- a leaf from its literal on, from its operator on
-abbrev pub with_literal : (Literal → Option Leaf) → Token → List ℕ → Read
-with_literal leafWith u after = or_else (as_literal u) (λ l. or_else (leafWith l) (λ leaf. read (leaf_of leaf) after))
-
-abbrev pub with_operator : (Binary → Literal → Option Leaf) → Token → List ℕ → Read
-with_operator leafWith t rest = or_else (as_operator t) (λ o. after_spaces rest (with_literal (leafWith o)))
-
-abbrev pub FromLiteral : List Column → ℕ → PredicateOperator → List ℕ → ℕ → declared.Symbol → Type 0
-FromLiteral cs place operator s at r =
-    (o : Binary) → by_arity operator ≡ one o → Gives cs s at r (after_spaces (drop at s) (with_literal (leaf_on place (column_at cs place) o)))
-
-abbrev pub FromOperator : List Column → ℕ → List ℕ → ℕ → declared.Symbol → Type 0
-FromOperator cs place s at r = Gives cs s at r (after_spaces (drop at s) (with_operator (leaf_on place (column_at cs place))))
-
-abbrev pub FromWord : List Column → List ℕ → ℕ → ℕ → ℕ → declared.Symbol → Type 0
-FromWord cs s from to next r = Gives cs s next r (of_word cs (field from (to - from) s) (drop next s))
+-- k is the first symbol of the text from `at` on
+pub record Symbolises (cs : List Column) (s : List ℕ) (at : ℕ) (k : declared.Symbol) (next : ℕ) : Type 0 where
+  pub is : Opens cs s k next (symbols cs (drop at s))
+  pub forward : Onward k at next
+  pub within : next ≤ length s

@@ -1,8 +1,11 @@
 -- Laws of the symbols of a text: the first, and those of the text after it; and the leaf of a name. Assumes nothing.
-use Rattle.std.specs.Prelude.{ℕ, zero, suc, ◌+◌, ◌-◌, ◌≤◌, ◌<◌, Bool, true, false, cond, List, [], ◌∷◌, ◌≡◌, refl, eqb, pos, neg_ℤ, length}
-use Rattle.std.proofs.Common.{zero-add, arith, sym, ap, ◌∙◌}
-use Rattle.std.proofs.Math.Option.{Option, some, none}
-use Rattle.std.proofs.Math.Path.{fun_ext}
+use Rattle.std.specs.Prelude.{ℕ, zero, suc, ◌+◌, ◌-◌, ◌≤◌, ◌<◌, Bool, true, false, cond, List, [], ◌∷◌, ◌≡◌, ◌≢◌, refl, eqb, pos, neg_ℤ}
+use Rattle.std.specs.Prelude.{length, map, Option, Some, None, option_and_then}
+use Rattle.std.specs.List.{position_from}
+use Rattle.std.proofs.Common.{add-one, arith, sym, ap, subst, ◌∙◌}
+use Rattle.std.proofs.lemmas.List.{length-map}
+use Rattle.std.proofs.Math.Option as maybe
+use Rattle.std.proofs.Math.Option.{some, none}
 use Rattle.values.specs.Characters.{ascii, is_letter, is_digit, leading, following}
 use Rattle.values.specs.Order.{compare_bytes, is_equal}
 use Rattle.values.specs.laws.CharacterLaws.{following_shorter}
@@ -13,10 +16,10 @@ use Rattle.tokens.specs.Tokens as tokens
 use Rattle.tokens.specs.Tokens.{Token, Taken, taken, is_space, is_text, decimal_at, minus_at, unquoted, quoted_at, longest, token}
 use Rattle.grammar.specs.Grammar as grammar
 use Rattle.grammar.specs.Grammar.{Symbol}
-use Rattle.leaves.specs.Fitting.{Literal, Leaf, leaf_from, leaf_of}
+use Rattle.leaves.specs.Fitting.{Literal, Leaf, fits, content_of, leaf_from, leaf_of}
 use Rattle.leaves.specs.Symbols.{Read, read, unread, or_else, on_taken, after_spaces, as_operator, as_literal}
 use Rattle.leaves.specs.Symbols.{leaf_after, of_word, of_token, symbol, first_then, symbols_from, symbols_within, symbols}
-use Rattle.leaves.specs.code.SymbolAnswers.{leaf_on, with_operator}
+use Rattle.leaves.specs.code.SymbolAnswers.{token_in, with_rest, fitting, literal_in, leaf_with, leaf_on, leaf_in}
 
 -- ---- each symbol takes at least one byte
 
@@ -86,7 +89,7 @@ on_token n s f h go = on (token (following is_space s)) (token_leaves (following
     on : (x : Taken) → Leaves (length (following is_space s) - 1) x → ReadLeaves n (on_taken f x)
     on (taken t rest) k = go t rest (omega (arith, following_shorter is_space s))
 
-on_some : {A : Type 0} (n : ℕ) (x : Option A) (f : A → Read) → ((a : A) → ReadLeaves n (f a)) → ReadLeaves n (or_else x f)
+on_some : {A : Type 0} (n : ℕ) (x : maybe.Option A) (f : A → Read) → ((a : A) → ReadLeaves n (f a)) → ReadLeaves n (or_else x f)
 on_some n none f go = unread_leaves n
 on_some n (some a) f go = go a
 
@@ -169,46 +172,126 @@ module _ (cs : List Column) where
       ∙ begun_same (symbols_within cs (length s)) (symbols cs) b t (λ u d. symbols_within_lem (length s) u (omega arith))
       ∙ ap (λ u. first_then cs (symbols cs) (on_taken (of_token cs) (token u))) begun
 
+  pub symbols_begun : (s : List ℕ) → following is_space s ≢ [] → symbols cs s ≡ first_then cs (symbols cs) (on_taken (of_token cs) (token_in s))
+  symbols_begun s begun = go (following is_space s) refl
+    where
+      go : (u : List ℕ) → following is_space s ≡ u → symbols cs s ≡ first_then cs (symbols cs) (on_taken (of_token cs) (token u))
+      go [] e = absurd (begun e)
+      go (b ∷ t) e = symbols_first s b t e
+
+-- ---- the place of a name
+module _ (test : List ℕ → Bool) where
+  position_within : (ns : List (List ℕ)) (k j : ℕ) → position_from test k ns ≡ Some j → j < k + length ns
+  position_within [] k j e = cc
+  position_within (n ∷ ns) k j e = go (test n) (position_within ns (k + 1) j) e
+    where
+      go : (t : Bool) → (position_from test (k + 1) ns ≡ Some j → j < k + 1 + length ns) → cond t (Some k) (position_from test (k + 1) ns) ≡ Some j
+          → j < k + suc (length ns)
+      go true h e = let same : k ≡ j = cc in omega arith
+      go false h e = omega (arith, h e)
+
+pub place_within : (cs : List Column) (name : List ℕ) (k : ℕ) → place_of name cs ≡ Some k → k < length cs
+place_within cs name k e =
+    omega (arith, length-map cs (λ d. d.name), position_within (λ n. is_equal (compare_bytes name n)) (map (λ d. d.name) cs) 0 k e)
+
 -- ---- the leaf of a name
 module _ (name : List ℕ) (o : Binary) (l : Literal) where
-  leaf_from_lem : (cs : List Column) (k : ℕ) → place_of name cs < length cs
-      → leaf_from k cs name o l ≡ leaf_on (k + place_of name cs) (column_at cs (place_of name cs)) o l
-  leaf_from_lem [] k h = absurd (omega arith)
-  leaf_from_lem (c ∷ cs) k h = go (is_equal (compare_bytes name c.name)) h (leaf_from_lem cs (suc k))
+  -- of the column d at place k
+  abbrev pub one_leaf : ℕ → Column → maybe.Option Leaf
+  one_leaf k d =
+      let leaf : Leaf = record { place = k; head = d.head; operator = o; content = content_of d.head.column l } in
+      cond (fits d.head.column l) (some leaf) none
+
+  abbrev Placed : ℕ → List Column → Option ℕ → maybe.Option Leaf → Type 0
+  Placed k cs None x = x ≡ none
+  Placed k cs (Some j) x = (i : ℕ) × (j ≡ k + i) × (x ≡ one_leaf j (column_at cs i))
+
+  later : (k : ℕ) (c : Column) (cs : List Column) (p : Option ℕ) (x : maybe.Option Leaf) → Placed (k + 1) cs p x → Placed k (c ∷ cs) p x
+  later k c cs None x h = h
+  later k c cs (Some j) x h = (suc h.0, omega (arith, h.1), h.2)
+
+  placed : (cs : List Column) (k : ℕ) → Placed k cs (position_from (λ n. is_equal (compare_bytes name n)) k (map (λ d. d.name) cs)) (leaf_from k cs name o l)
+  placed [] k = refl
+  placed (c ∷ cs) k = go (is_equal (compare_bytes name c.name)) (rw add-one (placed cs (suc k)))
     where
-      go : (t : Bool) → cond t 0 (suc (place_of name cs)) < suc (length cs)
-          → (place_of name cs < length cs → leaf_from (suc k) cs name o l ≡ leaf_on (suc k + place_of name cs) (column_at cs (place_of name cs)) o l)
-          → cond t (leaf_on k c o l) (leaf_from (suc k) cs name o l)
-          ≡ leaf_on (k + cond t 0 (suc (place_of name cs))) (column_at (c ∷ cs) (cond t 0 (suc (place_of name cs)))) o l
-      go true h rest = let here : k + 0 ≡ k = omega arith in rw here
-      go false h rest = let here : k + suc (place_of name cs) ≡ suc k + place_of name cs = omega arith in rw here (rest (omega arith))
+      others : Option ℕ
+      others = position_from (λ n. is_equal (compare_bytes name n)) (k + 1) (map (λ d. d.name) cs)
 
-  pub leaf_named : (cs : List Column) → place_of name cs < length cs → leaf_of cs name o l ≡ leaf_on (place_of name cs) (column_at cs (place_of name cs)) o l
-  leaf_named cs h = rw zero-add at (leaf_from_lem cs 0 h)
+      go : (t : Bool) → Placed (k + 1) cs others (leaf_from (suc k) cs name o l)
+          → Placed k (c ∷ cs) (cond t (Some k) others) (cond t (one_leaf k c) (leaf_from (suc k) cs name o l))
+      go true h = (0, omega arith, refl)
+      go false h = later k c cs _ _ h
 
-  none_from : (cs : List Column) (k : ℕ) → length cs ≤ place_of name cs → leaf_from k cs name o l ≡ none
-  none_from [] k h = refl
-  none_from (c ∷ cs) k h = go (is_equal (compare_bytes name c.name)) h (none_from cs (suc k))
+  module _ (cs : List Column) where
+    placed_as : (p : Option ℕ) → place_of name cs ≡ p → Placed 0 cs p (leaf_of cs name o l)
+    placed_as p e = subst (λ p. Placed 0 cs p (leaf_of cs name o l)) e (placed cs 0)
+
+    pub leaf_none : place_of name cs ≡ None → leaf_of cs name o l ≡ none
+    leaf_none e = placed_as None e
+
+    pub leaf_some : (k : ℕ) → place_of name cs ≡ Some k → leaf_of cs name o l ≡ one_leaf k (column_at cs k)
+    leaf_some k e =
+        let h = placed_as (Some k) e in
+        let same : h.0 ≡ k = omega (arith, h.1) in
+        rw same at h.2
+
+-- ---- what the code finds step by step is what the definitions read
+abbrev pub leaf_read : Option (Leaf × List ℕ) → Read
+leaf_read None = unread
+leaf_read (Some x) = read (grammar.leaf_of x.0) x.1
+
+module _ (cs : List Column) (name : List ℕ) where
+  -- a leaf from its literal on, and from its operator on
+  abbrev by_literal : Binary → Taken → Read
+  by_literal o = on_taken (λ u after. or_else (as_literal u) (λ l. or_else (leaf_of cs name o l) (λ leaf. read (grammar.leaf_of leaf) after)))
+
+  abbrev by_operator : Taken → Read
+  by_operator = on_taken (λ t rest. or_else (as_operator t) (λ o. by_literal o (token_in rest)))
+
+  -- no column has the name
+  module _ (e : place_of name cs ≡ None) where
+    none_by_literal : (o : Binary) (x : Taken) → by_literal o x ≡ unread
+    none_by_literal o (taken u after) = go (as_literal u)
+      where
+        go : (y : maybe.Option Literal) → or_else y (λ l. or_else (leaf_of cs name o l) (λ leaf. read (grammar.leaf_of leaf) after)) ≡ unread
+        go none = refl
+        go (some l) = rw (leaf_none name o l cs e)
+
+    none_by_operator : (x : Taken) → by_operator x ≡ unread
+    none_by_operator (taken t rest) = go (as_operator t)
+      where
+        go : (y : maybe.Option Binary) → or_else y (λ o. by_literal o (token_in rest)) ≡ unread
+        go none = refl
+        go (some o) = none_by_literal o (token_in rest)
+
+  module _ (k : ℕ) (e : place_of name cs ≡ Some k) where
+    abbrev d : Column
+    d = column_at cs k
+
+    some_by_literal : (o : Binary) (x : Taken) → by_literal o x ≡ leaf_read (option_and_then (λ l. Some (leaf_with k d o l)) (literal_in d.head.column x))
+    some_by_literal o (taken u after) = go (as_literal u)
+      where
+        go : (y : maybe.Option Literal) → or_else y (λ l. or_else (leaf_of cs name o l) (λ leaf. read (grammar.leaf_of leaf) after))
+            ≡ leaf_read (option_and_then (λ l. Some (leaf_with k d o l)) (option_and_then (fitting d.head.column) (with_rest after y)))
+        go none = refl
+        go (some l) = rw (leaf_some name o l cs k e) (fit l (fits d.head.column l))
+          where
+            fit : (l : Literal) (b : Bool) → or_else (cond b (some (leaf_with k d o (l, after)).0) none) (λ leaf. read (grammar.leaf_of leaf) after)
+                ≡ leaf_read (option_and_then (λ x. Some (leaf_with k d o x)) (cond b (Some (l, after)) None))
+            fit l true = refl
+            fit l false = refl
+
+    some_by_operator : (x : Taken) → by_operator x ≡ leaf_read (leaf_on k d x)
+    some_by_operator (taken t rest) = go (as_operator t)
+      where
+        go : (y : maybe.Option Binary) → or_else y (λ o. by_literal o (token_in rest))
+            ≡ leaf_read (option_and_then (λ o. option_and_then (λ l. Some (leaf_with k d o.0 l)) (literal_in d.head.column (token_in o.1))) (with_rest rest y))
+        go none = refl
+        go (some o) = some_by_literal o (token_in rest)
+
+  pub leaf_after_lem : (s : List ℕ) → leaf_after cs name s ≡ leaf_read (leaf_in cs name s)
+  leaf_after_lem s = go (place_of name cs) refl
     where
-      go : (t : Bool) → suc (length cs) ≤ cond t 0 (suc (place_of name cs)) → (length cs ≤ place_of name cs → leaf_from (suc k) cs name o l ≡ none)
-          → cond t (leaf_on k c o l) (leaf_from (suc k) cs name o l) ≡ none
-      go true h rest = absurd (omega arith)
-      go false h rest = rest (omega arith)
-
--- of a name that a column has, and of one that none has
-module _ (cs : List Column) (name s : List ℕ) where
-  pub leaf_after_lem : place_of name cs < length cs → leaf_after cs name s ≡ after_spaces s (with_operator (leaf_on (place_of name cs) (column_at cs (place_of name cs))))
-  leaf_after_lem h = ap (λ (f : Binary → Literal → Option Leaf). after_spaces s (with_operator f)) (fun_ext (λ o. fun_ext (λ l. leaf_named name o l cs h)))
-
-  pub no_leaf_after : length cs ≤ place_of name cs → leaf_after cs name s ≡ unread
-  no_leaf_after h =
-      ap (λ (f : Binary → Literal → Option Leaf). after_spaces s (with_operator f)) (fun_ext (λ o. fun_ext (λ l. none_from name o l cs 0 h)))
-      ∙ on_taken_lem (token (following is_space s)) _ (λ t rest. on_option (as_operator t) _ (λ o.
-      on_taken_lem (token (following is_space rest)) _ (λ u after. on_option (as_literal u) _ (λ l. refl))))
-    where
-      on_option : {A : Type 0} (x : Option A) (f : A → Read) → ((a : A) → f a ≡ unread) → or_else x f ≡ unread
-      on_option none f go = refl
-      on_option (some a) f go = go a
-
-      on_taken_lem : (x : Taken) (f : Token → List ℕ → Read) → ((t : Token) (rest : List ℕ) → f t rest ≡ unread) → on_taken f x ≡ unread
-      on_taken_lem (taken t rest) f go = go t rest
+      go : (p : Option ℕ) → place_of name cs ≡ p → by_operator (token_in s) ≡ leaf_read (option_and_then (λ k. leaf_on k (column_at cs k) (token_in s)) p)
+      go None e = none_by_operator e (token_in s)
+      go (Some k) e = some_by_operator k e (token_in s)

@@ -1,96 +1,88 @@
--- What the routines that read a filter take and give: a place in the text, and a filter with the symbol after it. Assumes nothing.
-use Rattle.std.specs.Prelude.{ℕ, ◌+◌, ◌≤◌, ◌<◌, Bool, true, false, cond, ◌||◌, List, ◌∷◌, ◌≡◌, length, drop}
+-- What the routines that read a filter take and give: what is asked, and a filter with the symbol after it. Assumes nothing.
+use Rattle.std.specs.Prelude.{ℕ, ◌<◌, Bool, cond, List, ◌∷◌, ◌≡◌, Option, Some, None, length, drop}
 use Rattle.values.specs.Outcomes.{Res}
-use Rattle.meets.specs.Tested.{held_as}
-use Rattle.meets.specs.declared.held.Held.{Held}
-use Rattle.meets.specs.declared.held.Held.TheVariants as held
+use Rattle.columns.specs.Cells.{Cell}
 use Rattle.columns.specs.Columns.{Column}
 use Rattle.columns.specs.code.ColumnAnswers.{columns_in}
-use Rattle.columns.specs.laws.CellLaws.{CellsRead}
 use Rattle.grammar.specs.Grammar.{Symbol, opening}
-use Rattle.grammar.specs.Parser.{Parser, single}
+use Rattle.grammar.specs.Parser.{Parser, single, conjunction, disjunction}
 use Rattle.leaves.specs.Fitting.{Leaf}
 use Rattle.leaves.specs.Symbols.{symbols}
 use Rattle.leaves.specs.code.SymbolAnswers.{IsLeaf, Symbolises}
 use Rattle.leaves.specs.declared.leaf.Leaf as declared-leaf
 use Rattle.leaves.specs.declared.symbol.Symbol as declared-symbol
-use Rattle.leaves.specs.declared.symbol.SymbolKind.{SymbolKind}
-use Rattle.leaves.specs.declared.symbol.SymbolKind.TheVariants as kind
-use Rattle.ask.specs.declared.asked.Asked.{Asked}
-use Rattle.parse.specs.FilterText.{bracket_limit, turn}
+use Rattle.leaves.specs.declared.symbol.Symbol.TheVariants as symbol
+use Rattle.parse.specs.FilterText.{turn}
 use Rattle.parse.specs.code.Asking.{side_for, ask_in, cells_in}
-use Rattle.parse.specs.code.Reading.{join_held, filter_to, Finds}
+use Rattle.parse.specs.code.Reading.{FindsOne, FindsNone}
+use Rattle.parse.specs.declared.read.Ahead.{Ahead}
+use Rattle.parse.specs.declared.read.Ahead.TheVariants as ahead
 use Rattle.parse.specs.declared.read.Read.{Read}
+use Rattle.parse.specs.declared.read.Word.{Word}
+use Rattle.parse.specs.declared.read.Word.TheVariants.{And, Or}
+use Rattle.parse.specs.declared.request.Request.{Request}
 
--- ---- the struct as it is made
+-- ---- what is asked
 
-abbrev pub no_filter : ℕ → Read
-no_filter at = record { found = false; next = at; ahead = kind.Unreadable; past = at; leaves = 0; deep = false; answer = held.No }
+abbrev pub columns_of : Request → List Column
+columns_of q = columns_in q.columns.list.now
 
--- two filters with a word between them
-abbrev pub join_read : Bool → Read → Read → Read
-join_read all left right = record {
-  found = true;
-  next = right.next;
-  ahead = right.ahead;
-  past = right.past;
-  leaves = left.leaves + right.leaves;
-  deep = left.deep || right.deep;
-  answer = join_held all left.answer right.answer;
-}
+abbrev pub cells_for : Request → List Cell
+cells_for q = cells_in (side_for q.asked) q.columns.list.now q.values.now
+
+abbrev pub ask : Request → Leaf → Res Bool
+ask q l = ask_in q.asked (cells_for q) l
+
+-- the leaf x under nots is answered so
+abbrev pub Asks : Request → Bool → declared-leaf.Leaf → Res Bool → Type 0
+Asks q negate x answer = (l : Leaf) → IsLeaf (columns_of q) q.text.now x l → answer ≡ ask q (cond negate (turn l) l)
+
+abbrev pub SomeLeaf : Request → declared-leaf.Leaf → Type 0
+SomeLeaf q x = (l : Leaf) × IsLeaf (columns_of q) q.text.now x l
+
+-- the symbols of the text from a place on
+abbrev pub after : Request → ℕ → List (Symbol Leaf)
+after q k = symbols (columns_of q) (drop k q.text.now)
 
 -- ---- the symbol after a filter
 
--- the symbol of the text s at `next` is of the kind `ahead`, and the text after it begins at `past`
-pub record Seen (cs : List Column) (s : List ℕ) (next : ℕ) (ahead : SymbolKind) (past : ℕ) : Type 0 where
+-- what a symbol is to a filter that ends before it
+abbrev pub ahead_of : declared-symbol.Symbol → Ahead
+ahead_of symbol.End = ahead.End
+ahead_of (symbol.Leaf leaf) = ahead.Other
+ahead_of symbol.And = ahead.Word And
+ahead_of symbol.Or = ahead.Word Or
+ahead_of symbol.Not = ahead.Other
+ahead_of symbol.Opening = ahead.Other
+ahead_of symbol.Closing = ahead.Closing
+ahead_of symbol.Unreadable = ahead.Other
+
+-- the symbol of the text s at `next` is `ahead`, and the text after it begins at `past`
+pub record Seen (cs : List Column) (s : List ℕ) (next : ℕ) (ahead : Ahead) (past : ℕ) : Type 0 where
   pub symbol : declared-symbol.Symbol
-  pub is : Symbolises cs s next symbol
-  pub of_kind : ahead ≡ symbol.kind
-  pub to : past ≡ symbol.next
+  pub is : Symbolises cs s next symbol past
+  pub of_kind : ahead ≡ ahead_of symbol
 
--- a filter up to `next`, of which so much is told
-pub record FilterTo (cs : List Column) (s : List ℕ) (next leaves : ℕ) (deep : Bool) (answer : Held) (r : Read) : Type 0 where
-  pub is : r ≡ filter_to next leaves deep answer r.ahead r.past
-  pub seen : Seen cs s next r.ahead r.past
+-- ---- the routines
 
--- where there is no filter, no word follows
-pub record Looks (cs : List Column) (s : List ℕ) (r : Read) : Type 0 where
-  pub one : r.found ≡ true → Seen cs s r.next r.ahead r.past
-  pub none : r.found ≡ false → r.ahead ≡ kind.Unreadable
+-- filters with a word between them, and what stands between two of the word
+abbrev pub parser_of : Word → ℕ → Parser Leaf
+parser_of And = conjunction
+parser_of Or = disjunction
 
--- ---- one leaf
+abbrev pub part_of : Word → ℕ → Parser Leaf
+part_of And = single
+part_of Or = conjunction
 
-abbrev pub SomeLeaf : List Column → List ℕ → declared-leaf.Leaf → Type 0
-SomeLeaf cs s x = (l : Leaf) × IsLeaf cs s l x
+module _ (q : Request) where
+  pub record ReadsOne (p : ℕ → Parser Leaf) (at : ℕ) (negate : Bool) (opened : ℕ) (r : Read) : Type 0 where
+    pub one : FindsOne (after q) (length q.text.now) (ask q) p at negate opened r
+    pub seen : Seen (columns_of q) q.text.now r.next r.ahead r.past
 
-module _ (a : Asked) (c v s : List ℕ) where
-  abbrev pub after : ℕ → List (Symbol Leaf)
-  after k = symbols (columns_in c) (drop k s)
-
-  abbrev pub ask : Leaf → Res Bool
-  ask l = ask_in a (cells_in (side_for a) c v) l
-
-  abbrev pub ValuesRead : Type 0
-  ValuesRead = CellsRead (side_for a) c v (cells_in (side_for a) c v)
-
-  -- the leaf x under nots is answered so
-  abbrev pub Asks : Bool → declared-leaf.Leaf → Held → Type 0
-  Asks negate x r = (l : Leaf) → IsLeaf (columns_in c) s l x → r ≡ held_as (ask (cond negate (turn l) l))
-
-  -- ---- the routines
-
-  -- what is read from a place on, within so many open brackets
-  pub record Ready (count at opened : ℕ) : Type 0 where
-    pub counted : count ≡ length (columns_in c)
-    pub values : ValuesRead
-    pub within : at ≤ length s
-    pub few : opened ≤ bracket_limit
-
-  pub record Reads (p : ℕ → Parser Leaf) (at : ℕ) (negate : Bool) (opened : ℕ) (r : Read) : Type 0 where
-    pub finds : Finds after (length s) ask p at negate opened r
-    pub looks : Looks (columns_in c) s r
+  abbrev pub Reads : (ℕ → Parser Leaf) → ℕ → Bool → ℕ → Option Read → Type 0
+  Reads p at negate opened None = FindsNone (after q) (length q.text.now) (ask q) p at
+  Reads p at negate opened (Some r) = ReadsOne p at negate opened r
 
   -- the bracket that was opened before `at`
-  pub record ReadsBracket (at : ℕ) (negate : Bool) (opened : ℕ) (r : Read) : Type 0 where
-    pub finds : (start : ℕ) → start < at → after start ≡ opening ∷ after at → Finds after (length s) ask single start negate opened r
-    pub looks : Looks (columns_in c) s r
+  abbrev pub ReadsBracket : ℕ → Bool → ℕ → Option Read → Type 0
+  ReadsBracket at negate opened r = (start : ℕ) → start < at → after q start ≡ opening ∷ after q at → Reads single start negate opened r

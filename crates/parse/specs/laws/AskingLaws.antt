@@ -1,10 +1,12 @@
 -- A leaf that was read, and the value at its place: what the code asks of them is what the definitions ask. Assumes nothing.
-use Rattle.std.specs.Prelude.{ℕ, zero, suc, ◌-◌, ◌<◌, Bool, true, false, cond, List, [], ◌∷◌, ◌≡◌, refl, length}
-use Rattle.std.proofs.Common.{sym, ap, ◌∙◌, le-leb}
-use Rattle.values.specs.Outcomes.{Row}
-use Rattle.values.specs.Types.{content_size}
-use Rattle.values.specs.Words.{field}
+use Rattle.std.specs.Prelude.{ℕ, zero, suc, ◌<◌, Bool, true, false, cond, List, [], ◌∷◌, ◌≡◌, refl, ℤ, FitsSigned, length}
+use Rattle.std.proofs.Common.{arith, sym, ap, subst, ◌∙◌}
+use Rattle.std.proofs.lemmas.List.{length-map}
+use Rattle.values.specs.Outcomes.{Res, Row}
+use Rattle.values.specs.declared.datatypes.PrimitiveType.{PrimitiveType}
 use Rattle.expr.specs.Operators.{Binary, one, by_arity, opposite_binary}
+use Rattle.std.specs.Int.{w64}
+use Rattle.values.specs.laws.RangeLaws.{in_type_long}
 use Rattle.values.specs.laws.TestLaws.{clash}
 use Rattle.expr.specs.code.OperatorAnswers.{negated, takes_one}
 use Rattle.expr.specs.declared.operator.PredicateOperator.{PredicateOperator}
@@ -12,23 +14,31 @@ use Rattle.expr.specs.declared.operator.PredicateOperator.TheVariants as operato
 use Rattle.sheet.specs.laws.RecordLaws.{FitsRow, value_read}
 use Rattle.sheet.specs.Records.{record_at}
 use Rattle.columns.specs.Cells.{Cell, type_of}
-use Rattle.columns.specs.code.ColumnAnswers.{columns_in, cell_at, encoded}
-use Rattle.columns.specs.laws.CellLaws.{CellsRead, cell_column}
+use Rattle.columns.specs.Columns.{Column}
+use Rattle.columns.specs.code.ColumnAnswers.{column_at, cell_at, encoded}
+use Rattle.columns.specs.laws.CellLaws.{cell_column}
 use Rattle.leaves.specs.Fitting.{Leaf, decimal, text, fits, content_of}
-use Rattle.leaves.specs.code.SymbolAnswers.{IsLeaf}
+use Rattle.leaves.specs.code.SymbolAnswers.{literal_of, IsLeaf}
 use Rattle.leaves.specs.declared.leaf.Leaf as declared
 use Rattle.ask.specs.LeafAnswers.{row_at}
-use Rattle.ask.specs.code.Askings.{number_answer, text_answer}
+use Rattle.ask.specs.code.Askings.{type_asked, number_answer, text_answer}
 use Rattle.ask.specs.declared.asked.Asked.{Asked}
 use Rattle.ask.specs.declared.asked.Asked.TheVariants as asked
 use Rattle.ask.specs.laws.AskLaws.{row_number, part_number, row_text, part_text}
 use Rattle.parse.specs.FilterText.{turn}
 use Rattle.parse.specs.code.Asking.{side_for, ask_in}
+use Rattle.parse.specs.code.FilterReads.{columns_of, cells_for, ask}
+use Rattle.parse.specs.declared.request.Request.{Request}
 
 pub row_cell : (cells : List Cell) (k : ℕ) → row_at cells k ≡ (cell_at cells k).row
 row_cell [] k = refl
 row_cell (c ∷ cells) zero = refl
 row_cell (c ∷ cells) (suc k) = row_cell cells k
+
+-- the type of a value, as it is asked
+type_asked_lem : (a : Asked) (d : Column) → type_of (side_for a) d ≡ type_asked a d.head.column d.head.transform
+type_asked_lem asked.Row d = refl
+type_asked_lem (asked.Part question) d = refl
 
 -- the operator as it is asked
 abbrev pub asked_as : Bool → PredicateOperator → PredicateOperator
@@ -81,69 +91,89 @@ module _ (negate : Bool) (l : Leaf) where
       go true = refl
       go false = refl
 
-module _ (a : Asked) (c v s : List ℕ) (cells : List Cell) (read : CellsRead (side_for a) c v cells) (negate : Bool) (l : Leaf) (x : declared.Leaf)
-    (is : IsLeaf (columns_in c) s l x) (r : Row (List ℕ)) (here : (cell_at cells x.place).row ≡ r) where
+-- ---- the value at a place
+module _ (q : Request) (place : ℕ) where
+  abbrev pub cell : Cell
+  cell = cell_at (cells_for q) place
+
+  pub has_cell : place < length (columns_of q) → place < length (cells_for q)
+  has_cell inside = omega (arith, length-map (cells_for q) (λ y. y.column), ap length q.read.columns)
+
+  abbrev asked_type : PrimitiveType
+  asked_type = let h = (column_at (columns_of q) place).head in type_asked q.asked h.column h.transform
+
+  type_is : type_of (side_for q.asked) cell.column ≡ asked_type
+  type_is = rw (cell_column q.read place) (type_asked_lem q.asked (column_at (columns_of q) place))
+
+  pub value_fits : place < length (columns_of q) → FitsRow asked_type cell.row
+  value_fits inside =
+      let read = (q.read.all place (has_cell inside)).is in
+      rw (← type_is) (value_read (type_of (side_for q.asked) cell.column) (record_at q.values.now place) cell.row read).fit
+
+  value_encoded : place < length (columns_of q) → encoded asked_type cell.row ≡ true
+  value_encoded inside = rw (← type_is) (q.read.all place (has_cell inside)).utf8
+
+-- ---- a leaf, turned or not
+module _ (q : Request) (negate : Bool) (x : declared.Leaf) (l : Leaf) (is : IsLeaf (columns_of q) q.text.now x l) where
   abbrev leaf : Leaf
   leaf = cond negate (turn l) l
 
-  at_place : row_at cells leaf.place ≡ r
-  at_place = rw (same_place negate l, is.place) (row_cell cells x.place ∙ here)
+  abbrev row : Row (List ℕ)
+  row = (cell q x.place).row
 
-  -- the value is of the column's type, where a row is asked
-  row_type : a ≡ asked.Row → type_of (side_for a) (cell_at cells x.place).column ≡ l.head.column
-  row_type e = rw e (ap (λ d. d.head.column) (cell_column read x.place) ∙ ap (λ d. d.column) (sym is.head))
+  at_place : row_at (cells_for q) leaf.place ≡ row
+  at_place = rw (same_place negate l, is.place) (row_cell (cells_for q) x.place)
 
-  fits_row : a ≡ asked.Row → x.place < length cells → FitsRow l.head.column r
-  fits_row e h =
-      let k = read.all x.place h in
-      rw (← row_type e, ← here) (value_read (type_of (side_for a) (cell_at cells x.place).column) (record_at v x.place) (cell_at cells x.place).row k.is).fit
+  fitted : fits leaf.head.column (literal_of q.text.now x.literal) ≡ true
+  fitted = rw (same_head negate l) is.fitted
 
-  -- ---- a number
-  module _ (number : x.is_text ≡ false) where
-    turned_number : (b : Asked) → number_answer b leaf.head.column leaf.head.transform (one leaf.operator) x.number r
-        ≡ number_answer b l.head.column l.head.transform (by_arity (asked_as negate x.operator)) x.number r
-    turned_number b = rw (turned_operator negate l x.operator is.operator, same_head negate l)
+  written : leaf.content ≡ content_of leaf.head.column (literal_of q.text.now x.literal)
+  written = rw (same_content negate l, same_head negate l) is.content
 
-    number_fits : fits leaf.head.column (decimal x.number) ≡ true
-    number_fits = rw (same_head negate l) (is.number number).holds
+  -- where a row is asked
+  row_column : q.asked ≡ asked.Row → asked_type q x.place ≡ leaf.head.column
+  row_column e =
+      let h = (column_at (columns_of q) x.place).head in
+      ap (λ a. type_asked a h.column h.transform) e ∙ sym (ap (λ g. g.column) (same_head negate l ∙ is.head))
 
-    number_written : leaf.content ≡ content_of leaf.head.column (decimal x.number)
-    number_written = rw (same_content negate l, same_head negate l) (is.number number).is
+  row_fits : q.asked ≡ asked.Row → FitsRow leaf.head.column row
+  row_fits e = subst (λ t. FitsRow t row) (row_column e) (value_fits q x.place is.placed)
 
-    pub asks_number : x.place < length cells
-        → ask_in a cells leaf ≡ number_answer a l.head.column l.head.transform (by_arity (asked_as negate x.operator)) x.number r
-    asks_number h = go a refl
+  row_encoded : q.asked ≡ asked.Row → encoded leaf.head.column row ≡ true
+  row_encoded e = subst (λ t. encoded t row ≡ true) (row_column e) (value_encoded q x.place is.placed)
+
+  module _ (z : ℤ) (number : literal_of q.text.now x.literal ≡ decimal z) where
+    abbrev number_asked : Asked → Res Bool
+    number_asked a = number_answer a l.head.column l.head.transform (by_arity (asked_as negate x.operator)) z row
+
+    turned_number : (a : Asked) → number_answer a leaf.head.column leaf.head.transform (one leaf.operator) z row ≡ number_asked a
+    turned_number a = rw (turned_operator negate l x.operator is.operator, same_head negate l)
+
+    -- it is one of 64 bits
+    pub held : FitsSigned w64 z
+    held = in_type_long l.head.column z (rw number at is.fitted)
+
+    pub asks_number : ask q leaf ≡ number_asked q.asked
+    asks_number = go q.asked refl
       where
-        go : (b : Asked) → a ≡ b
-            → ask_in b cells leaf ≡ number_answer b l.head.column l.head.transform (by_arity (asked_as negate x.operator)) x.number r
+        go : (a : Asked) → q.asked ≡ a → ask_in a (cells_for q) leaf ≡ number_asked a
         go asked.Row e =
-            let fit : FitsRow leaf.head.column r = rw (same_head negate l) (fits_row e h) in
-            row_number cells leaf r at_place x.number number_fits number_written fit ∙ turned_number asked.Row
-        go (asked.Part question) e = part_number cells leaf r at_place x.number number_fits number_written question ∙ turned_number (asked.Part question)
+            row_number (cells_for q) leaf row at_place z (rw number at fitted) (rw number at written) (row_fits e) ∙ turned_number asked.Row
+        go (asked.Part question) e =
+            part_number (cells_for q) leaf row at_place z (rw number at fitted) (rw number at written) question ∙ turned_number (asked.Part question)
 
-  -- ---- a text
-  module _ (is_text_lem : x.is_text ≡ true) where
-    abbrev literal : List ℕ
-    literal = field x.from (x.to - x.from) s
+  module _ (s : List ℕ) (is_text : literal_of q.text.now x.literal ≡ text s) where
+    abbrev text_asked : Asked → Res Bool
+    text_asked a = text_answer a l.head.column l.head.transform (by_arity (asked_as negate x.operator)) s row
 
-    turned_text : (b : Asked) → text_answer b leaf.head.column leaf.head.transform (one leaf.operator) literal r
-        ≡ text_answer b l.head.column l.head.transform (by_arity (asked_as negate x.operator)) literal r
-    turned_text b = rw (turned_operator negate l x.operator is.operator, same_head negate l)
+    turned_text : (a : Asked) → text_answer a leaf.head.column leaf.head.transform (one leaf.operator) s row ≡ text_asked a
+    turned_text a = rw (turned_operator negate l x.operator is.operator, same_head negate l)
 
-    text_fits : fits leaf.head.column (text literal) ≡ true
-    text_fits = let t = is.text is_text_lem in rw (same_head negate l, ← t.is, t.texts, t.encoded, le-leb (length l.content) content_size t.short)
-
-    text_written : leaf.content ≡ content_of leaf.head.column (text literal)
-    text_written = same_content negate l ∙ (is.text is_text_lem).is
-
-    pub asks_text : x.place < length cells
-        → ask_in a cells leaf ≡ text_answer a l.head.column l.head.transform (by_arity (asked_as negate x.operator)) literal r
-    asks_text h = go a refl
+    pub asks_text : ask q leaf ≡ text_asked q.asked
+    asks_text = go q.asked refl
       where
-        go : (b : Asked) → a ≡ b
-            → ask_in b cells leaf ≡ text_answer b l.head.column l.head.transform (by_arity (asked_as negate x.operator)) literal r
+        go : (a : Asked) → q.asked ≡ a → ask_in a (cells_for q) leaf ≡ text_asked a
         go asked.Row e =
-            let utf : encoded l.head.column r ≡ true = rw (← row_type e, ← here) (read.all x.place h).utf8 in
-            let fine : encoded leaf.head.column r ≡ true = rw (same_head negate l) utf in
-            row_text cells leaf r at_place literal text_fits text_written fine ∙ turned_text asked.Row
-        go (asked.Part question) e = part_text cells leaf r at_place literal text_fits text_written question ∙ turned_text (asked.Part question)
+            row_text (cells_for q) leaf row at_place s (rw is_text at fitted) (rw is_text at written) (row_encoded e) ∙ turned_text asked.Row
+        go (asked.Part question) e =
+            part_text (cells_for q) leaf row at_place s (rw is_text at fitted) (rw is_text at written) question ∙ turned_text (asked.Part question)

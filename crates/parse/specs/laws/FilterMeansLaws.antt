@@ -1,7 +1,7 @@
 -- The filter in a text is the one that the grammar derives from the symbols that the text is, within the limits. Assumes nothing.
-use Rattle.std.specs.Prelude.{ℕ, suc, ◌≤◌, true, List, [], ◌∷◌, ◌↔◌, ◌≡◌, refl, leb, length}
+use Rattle.std.specs.Prelude.{ℕ, suc, ◌≤◌, true, List, [], ◌∷◌, ◌↔◌, ◌≡◌, refl, leb, length, Ok}
 use Rattle.std.proofs.Common.{sym, ap, subst, ◌∙◌, leb-true, le-leb}
-use Rattle.values.specs.Outcomes.{Res, ok, need, ◌>>◌}
+use Rattle.values.specs.Outcomes.{Res, need, ◌>>◌}
 use Rattle.values.specs.SomeEvery.{every}
 use Rattle.values.specs.laws.OutcomeLaws.{ok_inj, ok_not_err, passing, going, passed, gone}
 use Rattle.values.specs.declared.error.ErrorKind.TheVariants.{TooLarge}
@@ -32,14 +32,14 @@ mutual
   disjunction_read (one_conjunction d) h = conjunction_read d h
   disjunction_read (or_conjunction d e) h = disjunction_read d (conjunction_read e h)
 
-whole_found : (x : Found Leaf) (f : Filter Leaf) → whole x ≡ ok f → x ≡ found f []
+whole_found : (x : Found Leaf) (f : Filter Leaf) → whole x ≡ Ok f → x ≡ found f []
 whole_found (found g []) f e = ap (λ k. found k []) (ok_inj e)
 whole_found (found g (y ∷ ys)) f e = ok_not_err e
 whole_found nothing f e = ok_not_err e
 
 -- the symbols that the text is, and what is derived from them
 whole_means : (cs : List Column) (t : List ℕ) (f : Filter Leaf)
-    → (whole (disjunction (suc (length (symbols cs t))) (symbols cs t)) ≡ ok f) ↔ ((ys : List (Symbol Leaf)) × TextIs cs t ys × Derives ys f)
+    → (whole (disjunction (suc (length (symbols cs t))) (symbols cs t)) ≡ Ok f) ↔ ((ys : List (Symbol Leaf)) × TextIs cs t ys × Derives ys f)
 whole_means cs t f = (
   λ e.
       let d = (parser_means Leaf (symbols cs t) f).0 (whole_found _ f e) in
@@ -51,13 +51,13 @@ whole_means cs t f = (
 
 -- the limits of a filter that was read
 abbrev limited : Filter Leaf → Res (Filter Leaf)
-limited f = need (leb (leaves f) leaf_limit) TooLarge >> (need (leb (depth f) bracket_limit) TooLarge >> ok f)
+limited f = need (leb (leaves f) leaf_limit) TooLarge >> (need (leb (depth f) bracket_limit) TooLarge >> Ok f)
 
-limited_means : (f g : Filter Leaf) → (limited g ≡ ok f) ↔ ((g ≡ f) × (leaves f ≤ leaf_limit) × (depth f ≤ bracket_limit))
+limited_means : (f g : Filter Leaf) → (limited g ≡ Ok f) ↔ ((g ≡ f) × (leaves f ≤ leaf_limit) × (depth f ≤ bracket_limit))
 limited_means f g = (
   λ e.
       let few = passed (leb (leaves g) leaf_limit) TooLarge _ e in
-      let flat = passed (leb (depth g) bracket_limit) TooLarge (ok g) few.1 in
+      let flat = passed (leb (depth g) bracket_limit) TooLarge (Ok g) few.1 in
       let same = ok_inj flat.1 in
       (same, rw same at (leb-true (leaves g) leaf_limit few.0), rw same at (leb-true (depth g) bracket_limit flat.0)),
   λ h. rw (h.0, le-leb (leaves f) leaf_limit h.1, le-leb (depth f) bracket_limit h.2),
@@ -70,7 +70,7 @@ filter_means cs t f = (
       let short = passed (leb (length t) text_limit) TooLarge _ e in
       let read = gone (whole (disjunction (suc (length (symbols cs t))) (symbols cs t))) limited short.1 in
       let last = (limited_means f read.0).0 read.2 in
-      (leb-true (length t) text_limit short.0, (whole_means cs t f).0 (read.1 ∙ ap ok last.0), last.1, last.2),
+      (leb-true (length t) text_limit short.0, (whole_means cs t f).0 (read.1 ∙ ap Ok last.0), last.1, last.2),
   λ h.
       passing TooLarge _ (le-leb (length t) text_limit h.0)
       ∙ going limited ((whole_means cs t f).1 h.1)

@@ -1,8 +1,8 @@
 -- What the transforms of strings and binaries promise to the crates above: the value is a beginning, and which byte strings have one. Assumes nothing.
-use Rattle.std.specs.Prelude.{ℕ, Bool, true, false, cond, List, ◌⊎◌, ◌≡◌, refl, length, take}
+use Rattle.std.specs.Prelude.{ℕ, Bool, true, false, cond, List, ◌⊎◌, ◌≡◌, refl, length, take, Ok}
 use Rattle.std.proofs.Common.{inl, inr, sym, ap, subst}
 use Rattle.std.proofs.Math.Seq.{take-length}
-use Rattle.values.specs.Outcomes.{ok, missing, present}
+use Rattle.values.specs.Outcomes.{Res, Row, missing, present}
 use Rattle.values.specs.laws.OutcomeLaws.{ok_inj, present_inj, ok_not_err, missing_not_present}
 use Rattle.values.specs.laws.TestLaws.{clash}
 use Rattle.values.specs.Types.{same_type}
@@ -24,7 +24,7 @@ pub record Begins (ty : PrimitiveType) (s t : List ℕ) : Type 0 where
 whole : (ty : PrimitiveType) (s : List ℕ) → Begins ty s s
 whole ty s = record { beginning = sym (take-length s); string = λ t h. h }
 
-bytes_by : {s t : List ℕ} → ok (present s) ≡ ok (present t) → s ≡ t
+bytes_by : {s t : List ℕ} → ◌≡◌ {A = Res (Row (List ℕ))} (Ok (present s)) (Ok (present t)) → s ≡ t
 bytes_by e = present_inj (ok_inj e)
 
 cut_begins : (ty : PrimitiveType) (width : ℕ) (s : List ℕ) → Begins ty s (truncate_bytes ty width s)
@@ -34,7 +34,7 @@ cut_begins ty width s = go (same_type ty String) refl
     go true e = record { beginning = first_take width s; string = λ t. first_utf8 width s }
     go false e = record { beginning = first_bytes_take width s; string = λ t. clash (ap (λ (c : PrimitiveType). same_type c String) t) e }
 
-pub bytes_begin : (ty : PrimitiveType) (tr : Transform) (s t : List ℕ) → transform_bytes ty tr s ≡ ok (present t) → Begins ty s t
+pub bytes_begin : (ty : PrimitiveType) (tr : Transform) (s t : List ℕ) → transform_bytes ty tr s ≡ Ok (present t) → Begins ty s t
 unfolding transform_bytes
 bytes_begin ty Identity s t e = subst (Begins ty s) (bytes_by e) (whole ty s)
 bytes_begin ty (Truncate width) s t e = subst (Begins ty s) (bytes_by e) (cut_begins ty width s)
@@ -46,12 +46,12 @@ bytes_begin ty Void s t e = missing_not_present (ok_inj e)
 bytes_begin ty Unknown s t e = ok_not_err e
 
 -- Truncate cuts every byte string
-pub bytes_truncates : (ty : PrimitiveType) (width : ℕ) (s : List ℕ) → transform_bytes ty (Truncate width) s ≡ ok (present (truncate_bytes ty width s))
+pub bytes_truncates : (ty : PrimitiveType) (width : ℕ) (s : List ℕ) → transform_bytes ty (Truncate width) s ≡ Ok (present (truncate_bytes ty width s))
 unfolding transform_bytes
 bytes_truncates ty width s = refl
 
 -- only Identity and Truncate give a present byte string
-pub bytes_present : (ty : PrimitiveType) (tr : Transform) (s t : List ℕ) → transform_bytes ty tr s ≡ ok (present t)
+pub bytes_present : (ty : PrimitiveType) (tr : Transform) (s t : List ℕ) → transform_bytes ty tr s ≡ Ok (present t)
     → (tr ≡ Identity) ⊎ ((width : ℕ) × (tr ≡ Truncate width))
 unfolding transform_bytes
 bytes_present ty Identity s t e = inl refl
@@ -64,7 +64,7 @@ bytes_present ty Void s t e = missing_not_present (ok_inj e)
 bytes_present ty Unknown s t e = ok_not_err e
 
 -- every transform but Void gives a byte string or a refusal
-pub bytes_missing : (ty : PrimitiveType) (tr : Transform) (s : List ℕ) → transform_bytes ty tr s ≡ ok missing → tr ≡ Void
+pub bytes_missing : (ty : PrimitiveType) (tr : Transform) (s : List ℕ) → transform_bytes ty tr s ≡ Ok missing → tr ≡ Void
 unfolding transform_bytes
 bytes_missing ty Identity s e = missing_not_present (ok_inj (sym e))
 bytes_missing ty (Truncate width) s e = missing_not_present (ok_inj (sym e))
@@ -75,6 +75,6 @@ bytes_missing ty Hour s e = ok_not_err e
 bytes_missing ty Void s e = refl
 bytes_missing ty Unknown s e = ok_not_err e
 
-pub bytes_identity : (ty : PrimitiveType) (s : List ℕ) → transform_bytes ty Identity s ≡ ok (present s)
+pub bytes_identity : (ty : PrimitiveType) (s : List ℕ) → transform_bytes ty Identity s ≡ Ok (present s)
 unfolding transform_bytes
 bytes_identity ty s = refl

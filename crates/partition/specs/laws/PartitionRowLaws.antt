@@ -1,7 +1,7 @@
 -- A row's partition value is that of its value, and missing of a missing one. Assumes nothing.
-use Rattle.std.specs.Prelude.{ℕ, true, List, ◌≡◌, ℤ}
+use Rattle.std.specs.Prelude.{ℕ, true, List, ◌≡◌, ℤ, Ok}
 use Rattle.std.proofs.Math.Path.{fun_ext}
-use Rattle.values.specs.Outcomes.{Res, ok, Row}
+use Rattle.values.specs.Outcomes.{Res, Row}
 use Rattle.values.specs.laws.OutcomeLaws.{passing, passed}
 use Rattle.values.specs.declared.datatypes.PrimitiveType.{PrimitiveType}
 use Rattle.values.specs.declared.error.ErrorKind.TheVariants.{FeatureUnsupported}
@@ -14,7 +14,7 @@ module _ (column : PrimitiveType) (transform : Transform) where
     unfolding partition
     rows h = fun_ext (λ r. passing FeatureUnsupported (of_row value r) h)
 
-    row : (r : Row A) (p : Row B) → partition transform value r ≡ ok p → (known transform ≡ true) × (of_row value r ≡ ok p)
+    row : (r : Row A) (p : Row B) → partition transform value r ≡ Ok p → (known transform ≡ true) × (of_row value r ≡ Ok p)
     unfolding partition
     row r p e = passed (known transform) FeatureUnsupported (of_row value r) e
 
@@ -28,12 +28,12 @@ module _ (column : PrimitiveType) (transform : Transform) where
   bytes_rows h = rows (transform_bytes column transform) h
 
   -- of a row that has a partition value
-  pub number_row_lem : (r p : Row ℤ) → number_partition column transform r ≡ ok p
-      → (known transform ≡ true) × (of_row (transform_number column transform) r ≡ ok p)
+  pub number_row_lem : (r p : Row ℤ) → number_partition column transform r ≡ Ok p
+      → (known transform ≡ true) × (of_row (transform_number column transform) r ≡ Ok p)
   unfolding number_partition
   number_row_lem r p e = row (transform_number column transform) r p e
 
-  pub bytes_row : (r p : Row (List ℕ)) → bytes_partition column transform r ≡ ok p
-      → (known transform ≡ true) × (of_row (transform_bytes column transform) r ≡ ok p)
+  pub bytes_row : (r p : Row (List ℕ)) → bytes_partition column transform r ≡ Ok p
+      → (known transform ≡ true) × (of_row (transform_bytes column transform) r ≡ Ok p)
   unfolding bytes_partition
   bytes_row r p e = row (transform_bytes column transform) r p e

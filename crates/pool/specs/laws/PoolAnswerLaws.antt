@@ -1,7 +1,7 @@
 -- Pooling two summaries gives only the answers that document 02 names. Assumes nothing.
-use Rattle.std.specs.Prelude.{ℕ, List, ◌⊎◌, ◌≡◌, refl}
+use Rattle.std.specs.Prelude.{ℕ, List, ◌⊎◌, ◌≡◌, refl, Ok, Err}
 use Rattle.std.proofs.Common.{inl, inr, ap}
-use Rattle.values.specs.Outcomes.{Res, ok, err, error_number}
+use Rattle.values.specs.Outcomes.{Res, error_number}
 use Rattle.values.specs.Types.{same_type}
 use Rattle.values.specs.declared.error.ErrorKind.{ErrorKind}
 use Rattle.values.specs.declared.error.ErrorKind.TheVariants.{Malformed, NotUtf8, WrongSummary, DifferentTypes}
@@ -40,5 +40,5 @@ answers a b = go (pool a b) (pool_only a b)
     refusal (inr (inr (inr is))) = inr (inr (inr (ap error_number is)))
 
     go : (r : Res Pooled) → Only Refusal r → let n = pool_number r in (n ≡ 0) ⊎ ((n ≡ 3) ⊎ ((n ≡ 4) ⊎ ((n ≡ 11) ⊎ (n ≡ 12))))
-    go (ok p) h = inl refl
-    go (err e) h = inr (refusal (h.only e refl))
+    go (Ok p) h = inl refl
+    go (Err e) h = inr (refusal (h.only e refl))

@@ -1,4 +1,4 @@
--- A test on one literal, and which question is asked: words that the contracts of `numbers`, `strings` and `answers` share. Assumes nothing.
+-- A test on one literal, and what a question lifts: words that the contracts of `numbers`, `strings` and `answers` share. Assumes nothing.
 use Rattle.std.specs.Prelude.{Bool, false}
 use Rattle.values.specs.declared.datatypes.PrimitiveType.{PrimitiveType}
 use Rattle.values.specs.declared.transform.Transform.{Transform}
@@ -21,9 +21,3 @@ abbrev pub one_test : {A : Type 0} → Operator → A → Projected (Test A)
 one_test (operators.none o) l = none
 one_test (operators.one o) l = some (binary o l)
 one_test (operators.many o) l = none
-
--- what each question is answered
-abbrev pub asked : {X : Type 0} → Question → X → X → X
-asked Inclusive x y = x
-asked Strict x y = y
-asked Older x y = y

@@ -1,5 +1,5 @@
 -- The steps for strings and binaries lose no row, whatever cuts them: what is left is a beginning and keeps the order. Assumes nothing.
-use Rattle.std.specs.Prelude.{ℕ, Bool, true, false, not, cond, List, ◌≡◌, refl, ltb, leb}
+use Rattle.std.specs.Prelude.{ℕ, Bool, true, false, not, cond, List, ◌≡◌, refl, ltb, leb, Ok}
 use Rattle.std.proofs.Common.{arith, sym, ap, ◌∙◌, ltb-true, ltb-false, leb-true}
 use Rattle.std.proofs.lemmas.Bool.{not-true}
 use Rattle.values.specs.code.Places.{AllOf}
@@ -7,13 +7,13 @@ use Rattle.values.specs.Order as order
 use Rattle.values.specs.Order.{compare_bytes}
 use Rattle.values.specs.laws.OrderLaws.{is_less_lem, not_below, asymmetric, bytes_order}
 use Rattle.values.specs.laws.PrefixLaws.{starts_self, starts_through}
-use Rattle.values.specs.Outcomes.{Res, ok, ◌>>=◌}
+use Rattle.values.specs.Outcomes.{Res, ◌>>=◌}
 use Rattle.values.specs.laws.OutcomeLaws.{ok_inj}
 use Rattle.values.specs.laws.TestLaws.{stable, refuted, clash}
 use Rattle.values.specs.Types.{same_type}
 use Rattle.values.specs.declared.datatypes.PrimitiveType.{PrimitiveType}
 use Rattle.values.specs.declared.datatypes.PrimitiveType.TheVariants.{String}
-use Rattle.values.specs.declared.order.Ordering.TheVariants.{Less}
+use Rattle.std.specs.declared.cmp.Ordering.TheVariants.{Less}
 use Rattle.transform.specs.laws.Cutting.{Cutting}
 use Rattle.expr.specs.Holds.{bytes_tests, meets}
 use Rattle.expr.specs.laws.EqualityLaws.{bytes_tells, is_same}
@@ -27,7 +27,7 @@ use Rattle.projection.specs.Steps.{Projected, some, none, mapped, with_literal, 
 
 -- ---- T cuts
 module _ {Fine : List ℕ → Type 0} {count : List ℕ → ℕ} {w : ℕ} {cut : List ℕ → List ℕ} (cutting : Cutting Fine count w cut) (T : List ℕ → Res (List ℕ))
-    (gives : (s : List ℕ) → T s ≡ ok (cut s)) where
+    (gives : (s : List ℕ) → T s ≡ Ok (cut s)) where
   -- what is to be shown of a partition value: of an inclusive test q, and of a strict one
   abbrev pub Follows : Test (List ℕ) → Test (List ℕ) → Type 0
   Follows x q = (v : List ℕ) → Fine v → meets bytes_tests x v ≡ true → meets bytes_tests q (cut v) ≡ true
@@ -35,7 +35,7 @@ module _ {Fine : List ℕ → Type 0} {count : List ℕ → ℕ} {w : ℕ} {cut 
   abbrev pub Leads : Test (List ℕ) → Test (List ℕ) → Type 0
   Leads x q = (v : List ℕ) → Fine v → meets bytes_tests q (cut v) ≡ true → meets bytes_tests x v ≡ true
 
-  cut_is : (l t : List ℕ) → T l ≡ ok t → t ≡ cut l
+  cut_is : (l t : List ℕ) → T l ≡ Ok t → t ≡ cut l
   cut_is l t e = ok_inj (sym e ∙ gives l)
 
   -- a fine literal, under an operator
@@ -85,7 +85,7 @@ module _ {Fine : List ℕ → Type 0} {count : List ℕ → ℕ} {w : ℕ} {cut 
         w
         (some (binary not_eq l))
         (some (binary not_starts_with l))
-        (ok none)
+        (Ok none)
         (Follows (binary not_starts_with l))
         (λ d v u m. ap not (refuted _ (λ z. clash (rw ((is_same bytes_tests bytes_tells (cut v) l).0 z) at (cutting.prefix v)) (not-true _ m))))
         (λ d v u m. starts_not v m)
@@ -94,7 +94,7 @@ module _ {Fine : List ℕ → Type 0} {count : List ℕ → ℕ} {w : ℕ} {cut 
     binary_not_starts_follows : Returned (binary_not_starts T count w l) (Follows (binary not_starts_with l))
     binary_not_starts_follows = go (leb (count l) w) refl
       where
-        go : (b : Bool) → leb (count l) w ≡ b → Returned (cond b (with_literal not_starts_with (T l)) (ok none)) (Follows (binary not_starts_with l))
+        go : (b : Bool) → leb (count l) w ≡ b → Returned (cond b (with_literal not_starts_with (T l)) (Ok none)) (Follows (binary not_starts_with l))
         go true d =
             returned_literal
             not_starts_with
@@ -135,7 +135,7 @@ module _ {Fine : List ℕ → Type 0} {count : List ℕ → ℕ} {w : ℕ} {cut 
       stable _ (λ z. clash (k v u (opposite_true bytes_tests x v z)) (meets_false bytes_tests q (cut v) m))
 
   by_opposite : (x : Test (List ℕ)) → AllOf Fine (literals_in (test (opposite x)))
-      → Returned (as_string (opposite x) >>= λ q. ok (mapped opposite q)) (Leads x)
+      → Returned (as_string (opposite x) >>= λ q. Ok (mapped opposite q)) (Leads x)
   by_opposite x fine =
       returned_map opposite (as_string (opposite x)) (Follows (opposite x)) (Leads x) (leads_opposite x) (follows String (opposite x) fine)
 
@@ -147,7 +147,7 @@ module _ {Fine : List ℕ → Type 0} {count : List ℕ → ℕ} {w : ℕ} {cut 
   leads (binary eq l) fine = tt
   leads (binary not_eq l) fine = rw (opposite_literal eq (T l)) at (by_opposite (binary not_eq l) fine)
   leads (binary starts_with l) fine =
-      rw (opposite_length (count l) w (some (binary not_eq l)) (some (binary not_starts_with l)) (ok none)) at (by_opposite (binary starts_with l) fine)
+      rw (opposite_length (count l) w (some (binary not_eq l)) (some (binary not_starts_with l)) (Ok none)) at (by_opposite (binary starts_with l) fine)
   leads (binary not_starts_with l) fine =
       rw (opposite_length (count l) w (some (binary eq l)) (some (binary starts_with l)) (with_literal starts_with (T l)), opposite_literal starts_with (T l))
       at (by_opposite (binary not_starts_with l) fine)

@@ -1,12 +1,12 @@
 -- Eq and In under any T from values of one kind to values of another: what is returned accepts just the values of the literals. No order is asked of either
 -- kind. Assumes nothing.
-use Rattle.std.specs.Prelude.{true, ◌≡◌, refl}
+use Rattle.std.specs.Prelude.{true, ◌≡◌, refl, Ok}
 use mathlib.Core.List.Memᴰ.{eq_of_singleton}
 use mathlib.Core.List.Memᴰ.{head as here}
 use mathlib.Core.List.{List, Memᴰ as Isin}
 use Rattle.std.proofs.Common.{sym, ap, ◌∙◌}
 use Rattle.values.specs.Ascending.{ascending}
-use Rattle.values.specs.Outcomes.{Res, ok}
+use Rattle.values.specs.Outcomes.{Res}
 use Rattle.values.specs.laws.OutcomeLaws.{ok_inj}
 use Rattle.expr.specs.Holds.{Tests, meets}
 use Rattle.expr.specs.Operators.{eq, is_in}
@@ -19,7 +19,7 @@ module _ {A B : Type 0} (rows : Tests A) (parts : Tests B) (tells : Tells rows) 
   -- x asks for its literals, and q for their values
   pub record Equals (x : Test A) (q : Test B) : Type 0 where
     pub own : (l : A) → Isin l (literals_in (test x)) → meets rows x l ≡ true
-    pub kept : (v : A) (p : B) → T v ≡ ok p → meets rows x v ≡ true → meets parts q p ≡ true
+    pub kept : (v : A) (p : B) → T v ≡ Ok p → meets rows x v ≡ true → meets parts q p ≡ true
     pub needed : (p : B) → meets parts q p ≡ true → Literal T (literals_in (test x)) p
     pub literals : (t : B) → Isin t (literals_in (test q)) → Literal T (literals_in (test x)) t
 
@@ -28,8 +28,8 @@ module _ {A B : Type 0} (rows : Tests A) (parts : Tests B) (tells : Tells rows) 
       returned_literal eq (T l) (Equals (binary eq l)) (λ t e. record {
         own = λ k m. (is_same rows tells k l).1 (eq_of_singleton m);
         kept = λ v p h m. (is_same parts tells_parts p t).1 (ok_inj (sym h ∙ ap T ((is_same rows tells v l).0 m) ∙ e));
-        needed = λ p m. (l, e ∙ ap ok (sym ((is_same parts tells_parts p t).0 m)), here refl);
-        literals = λ k m. (l, e ∙ ap ok (sym (eq_of_singleton m)), here refl);
+        needed = λ p m. (l, e ∙ ap Ok (sym ((is_same parts tells_parts p t).0 m)), here refl);
+        literals = λ k m. (l, e ∙ ap Ok (sym (eq_of_singleton m)), here refl);
       })
 
   pub in_equals : (ls : List A) → Returned (with_each parts.compare is_in T ls) (Equals (set is_in ls))

@@ -1,9 +1,9 @@
 -- Demand 3 over leaves: what is to be shown of a leaf, the predicate that a projection returns for it, and the partition value that each row has.
 -- Assumes nothing.
-use Rattle.std.specs.Prelude.{ℕ, Bool, true, not, ◌||◌, List, ◌⊎◌, ◌↔◌, ◌≡◌, ℤ, pos, ◌<ℤ◌}
+use Rattle.std.specs.Prelude.{ℕ, Bool, true, not, ◌||◌, List, ◌⊎◌, ◌↔◌, ◌≡◌, ℤ, pos, ◌<ℤ◌, Ok}
 use Rattle.std.proofs.Math.IntN.{suc_ℤ}
 use Rattle.values.specs.code.Places.{AllOf}
-use Rattle.values.specs.Outcomes.{Res, ok, Row, present}
+use Rattle.values.specs.Outcomes.{Res, Row, present}
 use Rattle.values.specs.Types.{same_type}
 use Rattle.values.specs.Utf8.{utf8}
 use Rattle.values.specs.declared.datatypes.PrimitiveType.{PrimitiveType}
@@ -20,7 +20,7 @@ use Rattle.projection.specs.declared.question.Question.TheVariants.{Inclusive, S
 
 -- r is a row of p. `Held` says which values a row of the column can have, `part` which partition value it has, maybe of another kind
 abbrev pub RowOf : {A B : Type 0} → (A → Type 0) → (Row A → Res (Row B)) → Row A → Row B → Type 0
-RowOf Held part r p = OfPresent Held r × (part r ≡ ok p)
+RowOf Held part r p = OfPresent Held r × (part r ≡ Ok p)
 
 -- ---- nothing is lost
 module _ {A B : Type 0} (rows : Tests A) (parts : Tests B) (Held : A → Type 0) (part : Row A → Res (Row B)) (leaf : Predicate A) (q : Predicate B) where
@@ -58,20 +58,20 @@ HeldIn column s = (not (same_type column String) || utf8 s) ≡ true
 
 abbrev pub NumbersStrictExact : Type 0
 NumbersStrictExact = (column : PrimitiveType) (transform : Transform) (leaf q : Predicate ℤ) → AllOf (InType column) (literals_in leaf)
-    → project_numbers Strict column transform leaf ≡ ok (some q)
+    → project_numbers Strict column transform leaf ≡ Ok (some q)
     → StrictExact (InType column) (number_partition column transform) leaf q
 
 abbrev pub NumbersInclusiveExact : Type 0
 NumbersInclusiveExact = (column : PrimitiveType) (transform : Transform) (leaf q : Predicate ℤ) → AllOf (InType column) (literals_in leaf)
-    → project_numbers Inclusive column transform leaf ≡ ok (some q)
+    → project_numbers Inclusive column transform leaf ≡ Ok (some q)
     → InclusiveExact (InType column) (number_partition column transform) leaf (lifted column transform) q
 
 abbrev pub BytesNoRowLost : Type 0
 BytesNoRowLost = (column : PrimitiveType) (transform : Transform) (leaf q : Predicate (List ℕ)) → AllOf (HeldIn column) (literals_in leaf)
-    → project_bytes Inclusive column transform leaf ≡ ok (some q)
+    → project_bytes Inclusive column transform leaf ≡ Ok (some q)
     → NoRowLost bytes_tests bytes_tests (HeldIn column) (bytes_partition column transform) leaf q
 
 abbrev pub BytesStrictIsSafe : Type 0
 BytesStrictIsSafe = (column : PrimitiveType) (transform : Transform) (leaf q : Predicate (List ℕ)) → AllOf (HeldIn column) (literals_in leaf)
-    → project_bytes Strict column transform leaf ≡ ok (some q)
+    → project_bytes Strict column transform leaf ≡ Ok (some q)
     → StrictIsSafe bytes_tests bytes_tests (HeldIn column) (bytes_partition column transform) leaf q

@@ -1,5 +1,5 @@
 -- Laws of lifting: a lifted test accepts what the test accepts, and what is one above a negative literal that it accepts. Assumes nothing.
-use Rattle.std.specs.Prelude.{ℕ, Bool, true, false, ◌⊎◌, ◌↔◌, ◌≡◌, refl, ℤ, pos, negsuc, ◌≤ℤ◌, ◌<ℤ◌}
+use Rattle.std.specs.Prelude.{ℕ, Bool, true, false, ◌⊎◌, ◌↔◌, ◌≡◌, refl, ℤ, pos, negsuc, ◌≤ℤ◌, ◌<ℤ◌, Ok, Err}
 use mathlib.Core.List.Memᴰ.{eq_of_singleton}
 use mathlib.Core.List.Memᴰ.{head as here}
 use mathlib.Core.List.Memᴰ.{tail as there}
@@ -8,7 +8,7 @@ use Rattle.std.proofs.Common.{inl, inr, ⊎_elim, ap}
 use Rattle.std.proofs.Math.IntN.{suc_ℤ, pred_ℤ, suc-pred}
 use Rattle.values.specs.laws.IntLaws.{ints, le_or_lt}
 use Rattle.values.specs.laws.OrderLaws.{is_below, is_at_most}
-use Rattle.values.specs.Outcomes.{Res, ok, err, ◌>>=◌}
+use Rattle.values.specs.Outcomes.{Res, ◌>>=◌}
 use Rattle.values.specs.laws.RangeLaws.{next}
 use Rattle.expr.specs.laws.EqualityLaws.{number_tells, is_same, is_member, is_ascending_member}
 use Rattle.expr.specs.Holds.{number_tests, meets}
@@ -135,8 +135,8 @@ lift_if true q = lift q
 lift_if false q = q
 
 pub returned_lifted : (lifts : Bool) (r : Res (Projected (Test ℤ))) (g h : Test ℤ → Type 0) → ((q : Test ℤ) → g q → h (lift_if lifts q))
-    → Returned r g → Returned (r >>= λ q. ok (lifted_by lifts q)) h
+    → Returned r g → Returned (r >>= λ q. Ok (lifted_by lifts q)) h
 returned_lifted true r g h k x = returned_map lift r g h k x
-returned_lifted false (ok (some q)) g h k x = k q x
-returned_lifted false (ok none) g h k x = tt
-returned_lifted false (err e) g h k x = tt
+returned_lifted false (Ok (some q)) g h k x = k q x
+returned_lifted false (Ok none) g h k x = tt
+returned_lifted false (Err e) g h k x = tt

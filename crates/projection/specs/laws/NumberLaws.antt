@@ -1,7 +1,7 @@
 -- What is to be shown of the steps for numbers: that they are exact (`proofs/NumberLaws` shows it). Assumes nothing.
-use Rattle.std.specs.Prelude.{Bool, true, ◌⊎◌, ◌↔◌, ◌≡◌, ℤ}
+use Rattle.std.specs.Prelude.{Bool, true, ◌⊎◌, ◌↔◌, ◌≡◌, ℤ, Ok}
 use mathlib.Core.List.{Memᴰ as Isin}
-use Rattle.values.specs.Outcomes.{Res, ok}
+use Rattle.values.specs.Outcomes.{Res}
 use Rattle.values.specs.declared.datatypes.PrimitiveType.{PrimitiveType}
 use Rattle.partition.specs.code.PartitionAnswers.{InType}
 use Rattle.expr.specs.Holds.{number_tests, meets}
@@ -11,7 +11,7 @@ use Rattle.projection.specs.laws.LiftingLaws.{Above, Rises}
 module _ (column : PrimitiveType) (T : ℤ → Res ℤ) where
   -- p is the partition value of v, a number of the column's type
   abbrev pub Has : ℤ → ℤ → Type 0
-  Has v p = InType column v × (T v ≡ ok p)
+  Has v p = InType column v × (T v ≡ Ok p)
 
   abbrev pub SomeNumber : Test ℤ → ℤ → Type 0
   SomeNumber x p = (v : ℤ) × Has v p × (meets number_tests x v ≡ true)

@@ -1,9 +1,9 @@
 -- From the numbers of a partition value to its rows: what is exact of present values is exact of rows. Assumes nothing.
-use Rattle.std.specs.Prelude.{Bool, false, ◌≡◌, ℤ}
+use Rattle.std.specs.Prelude.{Bool, false, ◌≡◌, ℤ, Ok}
 use Rattle.std.proofs.Common.{inl, inr, ⊎_elim, sym, ap, ◌∙◌}
 use Rattle.values.specs.Order.{compare_numbers}
 use Rattle.values.specs.laws.OrderLaws.{number_order}
-use Rattle.values.specs.Outcomes.{Res, ok, Row, missing, present}
+use Rattle.values.specs.Outcomes.{Res, Row, missing, present}
 use Rattle.values.specs.laws.OutcomeLaws.{present_inj, missing_not_present}
 use Rattle.values.specs.laws.TestLaws.{clash}
 use Rattle.values.specs.declared.datatypes.PrimitiveType.{PrimitiveType}
@@ -20,7 +20,7 @@ use Rattle.projection.specs.laws.MissingLaws.{SameMissing}
 use Rattle.projection.specs.laws.RowLaws.{literal_value, missing_row, present_row, unary_row}
 use Rattle.projection.specs.Steps.{literal_under}
 
-module _ (column : PrimitiveType) (value : ℤ → Res (Row ℤ)) (never : (v : ℤ) → value v ≡ ok missing → ⊥) where
+module _ (column : PrimitiveType) (value : ℤ → Res (Row ℤ)) (never : (v : ℤ) → value v ≡ Ok missing → ⊥) where
   row_of : {p : ℤ} (r : Row ℤ) → RowOf (InType column) (of_row value) r (present p) → (v : ℤ) × (r ≡ present v) × Has column (literal_under value) v p
   row_of {p} r e = let a = present_row value never r e.1 in (a.0, a.1, (rw a.1 at e.0, (literal_value value a.0 p).1 a.2))
 
@@ -38,7 +38,7 @@ module _ (column : PrimitiveType) (value : ℤ → Res (Row ℤ)) (never : (v : 
     all_numbers all v e = all (present v) (e.0, (literal_value value v p).0 e.1)
 
   -- the rows of the missing partition value are missing
-  missing_meets_lem : (x : Test ℤ) (r : Row ℤ) → of_row value r ≡ ok missing → holds number_tests (test x) r ≡ holds number_tests (test x) missing
+  missing_meets_lem : (x : Test ℤ) (r : Row ℤ) → of_row value r ≡ Ok missing → holds number_tests (test x) r ≡ holds number_tests (test x) missing
   missing_meets_lem x r e = ap (holds number_tests (test x)) (missing_row value never r e)
 
   pub strict_rows : (x q : Test ℤ) → AllExact column (literal_under value) x q × SameMissing x q → StrictExact (InType column) (of_row value) (test x) (test q)
@@ -68,7 +68,7 @@ module _ (column : PrimitiveType) (value : ℤ → Res (Row ℤ)) (never : (v : 
       )
 
   -- ---- 101 to 104
-  same_unary : (o : Unary) (r p : Row ℤ) → of_row value r ≡ ok p → holds number_tests (unary o) r ≡ holds number_tests (unary o) p
+  same_unary : (o : Unary) (r p : Row ℤ) → of_row value r ≡ Ok p → holds number_tests (unary o) r ≡ holds number_tests (unary o) p
   same_unary o r p e = unary_row value never number_tests number_tests o r p e
 
   pub strict_unary : (o : Unary) → StrictExact (InType column) (of_row value) (unary o) (unary o)
@@ -84,7 +84,7 @@ module _ (column : PrimitiveType) (value : ℤ → Res (Row ℤ)) (never : (v : 
   )
 
 -- ---- where each row is its own partition value
-module _ (Held : ℤ → Type 0) (part : Row ℤ → Res (Row ℤ)) (same : (r p : Row ℤ) → part r ≡ ok p → r ≡ p) (leaf : Predicate ℤ) where
+module _ (Held : ℤ → Type 0) (part : Row ℤ → Res (Row ℤ)) (same : (r p : Row ℤ) → part r ≡ Ok p → r ≡ p) (leaf : Predicate ℤ) where
   ordered : (p : Row ℤ) → holds number_tests (in_order compare_numbers leaf) p ≡ holds number_tests leaf p
   ordered p = in_order_holds number_tests number_order.equal leaf p
 

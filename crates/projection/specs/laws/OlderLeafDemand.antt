@@ -1,8 +1,8 @@
 -- 02, #107, over leaves: a row with a negative partition value may be filed under it or under the next one. Assumes nothing.
-use Rattle.std.specs.Prelude.{Bool, true, ◌⊎◌, ◌≡◌, ℤ, pos, ◌<ℤ◌}
+use Rattle.std.specs.Prelude.{Bool, true, ◌⊎◌, ◌≡◌, ℤ, pos, ◌<ℤ◌, Ok}
 use Rattle.std.proofs.Math.IntN.{suc_ℤ}
 use Rattle.values.specs.code.Places.{AllOf}
-use Rattle.values.specs.Outcomes.{ok, Row, present}
+use Rattle.values.specs.Outcomes.{Row, present}
 use Rattle.values.specs.declared.datatypes.PrimitiveType.{PrimitiveType}
 use Rattle.values.specs.declared.transform.Transform.{Transform}
 use Rattle.partition.specs.Partition.{number_partition}
@@ -22,13 +22,13 @@ Filed lifts p f = (p ≡ f) ⊎ ((lifts ≡ true) × (z : ℤ) × (p ≡ present
 -- "every inclusive predicate the port returns today still loses no such row"
 abbrev pub NumbersNoOlderRowLost : Type 0
 NumbersNoOlderRowLost = (column : PrimitiveType) (transform : Transform) (leaf q : Predicate ℤ) → AllOf (InType column) (literals_in leaf)
-    → project_numbers Inclusive column transform leaf ≡ ok (some q)
+    → project_numbers Inclusive column transform leaf ≡ Ok (some q)
     → (r p f : Row ℤ) → RowOf (InType column) (number_partition column transform) r p → Filed (lifted column transform) p f
     → holds number_tests leaf r ≡ true → holds number_tests q f ≡ true
 
 -- "For it, a predicate accepting either filing implies the leaf"
 abbrev pub NumbersOlderIsSafe : Type 0
 NumbersOlderIsSafe = (column : PrimitiveType) (transform : Transform) (leaf q : Predicate ℤ) → AllOf (InType column) (literals_in leaf)
-    → project_numbers Older column transform leaf ≡ ok (some q)
+    → project_numbers Older column transform leaf ≡ Ok (some q)
     → (r p f : Row ℤ) → RowOf (InType column) (number_partition column transform) r p → Filed (lifted column transform) p f
     → holds number_tests q f ≡ true → holds number_tests leaf r ≡ true

@@ -1,10 +1,10 @@
 -- What a projection that returns a predicate has done: under Identity it is the leaf, and under the other transforms the step's. Assumes nothing.
-use Rattle.std.specs.Prelude.{Bool, true, false, ◌≡◌, refl}
-use Rattle.std.proofs.Common.{true≢false, sym}
-use Rattle.values.specs.Outcomes.{Res, ok, Row, missing, present}
-use Rattle.values.specs.laws.OutcomeLaws.{ok_inj, ok_not_err}
-use Rattle.values.specs.declared.order.Ordering.{Ordering}
-use Rattle.values.specs.declared.order.Ordering.TheVariants.{Equal}
+use Rattle.std.specs.Prelude.{Bool, true, false, ◌≡◌, refl, Ok}
+use Rattle.std.proofs.Common.{sym}
+use Rattle.values.specs.Outcomes.{Res, Row, missing, present}
+use Rattle.values.specs.laws.OutcomeLaws.{ok_inj, present_inj, ok_not_err, missing_not_present}
+use Rattle.std.specs.declared.cmp.Ordering.{Ordering}
+use Rattle.std.specs.declared.cmp.Ordering.TheVariants.{Equal}
 use Rattle.values.specs.declared.transform.Transform.{Transform}
 use Rattle.values.specs.declared.transform.Transform.TheVariants.{Identity, Truncate, Year, Month, Day, Hour, Void, Unknown}
 use Rattle.partition.specs.Partition.{known}
@@ -12,7 +12,7 @@ use Rattle.expr.specs.Holds.{Tests, holds}
 use Rattle.expr.specs.laws.HoldsLaws.{meets_ascending}
 use Rattle.expr.specs.Predicates.{Test, binary, set, Predicate, unary, test}
 use Rattle.projection.specs.Projection.{in_order, through, by_transform}
-use Rattle.projection.specs.Steps.{Projected, some, none}
+use Rattle.projection.specs.Steps.{Projected, some}
 
 -- the leaf with its literals in order holds where the leaf does
 pub in_order_holds : {A : Type 0} (by : Tests A) → ((a b : A) → by.compare a b ≡ Equal → a ≡ b) → (leaf : Predicate A) (r : Row A)
@@ -33,24 +33,18 @@ by_steps Hour = true
 by_steps Void = false
 by_steps Unknown = false
 
-some_inj : {P : Type 0} {p q : P} → some p ≡ some q → p ≡ q
-some_inj e = cc
-
-no_predicate : {P X : Type 0} {p : P} → ok none ≡ ok (some p) → X
-no_predicate e = absurd (true≢false (cc))
-
 module _ {A : Type 0} (compare : A → A → Ordering) (step : Test A → Res (Projected (Test A))) where
   pub data Course (transform : Transform) (leaf q : Predicate A) : Type 0 where
     leaf_itself : transform ≡ Identity → q ≡ in_order compare leaf → Course transform leaf q
-    stepped : by_steps transform ≡ true → through step leaf ≡ ok (some q) → Course transform leaf q
+    stepped : by_steps transform ≡ true → through step leaf ≡ Ok (some q) → Course transform leaf q
 
-  pub course : (transform : Transform) (leaf q : Predicate A) → by_transform compare step transform leaf ≡ ok (some q)
+  pub course : (transform : Transform) (leaf q : Predicate A) → by_transform compare step transform leaf ≡ Ok (some q)
       → (known transform ≡ true) × Course transform leaf q
-  course Identity leaf q e = (refl, leaf_itself refl (some_inj (ok_inj (sym e))))
+  course Identity leaf q e = (refl, leaf_itself refl (present_inj (ok_inj (sym e))))
   course (Truncate width) leaf q e = (refl, stepped refl e)
   course Year leaf q e = (refl, stepped refl e)
   course Month leaf q e = (refl, stepped refl e)
   course Day leaf q e = (refl, stepped refl e)
   course Hour leaf q e = (refl, stepped refl e)
-  course Void leaf q e = no_predicate e
+  course Void leaf q e = missing_not_present (ok_inj e)
   course Unknown leaf q e = ok_not_err e

@@ -1,9 +1,9 @@
 -- From present values to rows, for any question: nothing is lost of a row where nothing is lost of its value. Assumes nothing.
-use Rattle.std.specs.Prelude.{Bool, true, ◌≡◌}
+use Rattle.std.specs.Prelude.{Bool, true, ◌≡◌, Ok}
 use Rattle.std.proofs.Common.{sym, ap, ◌∙◌}
-use Rattle.values.specs.Outcomes.{Res, ok, Row, missing, present}
+use Rattle.values.specs.Outcomes.{Res, Row, missing, present}
 use Rattle.values.specs.laws.OutcomeLaws.{ok_inj, missing_not_present}
-use Rattle.values.specs.declared.order.Ordering.TheVariants.{Equal}
+use Rattle.std.specs.declared.cmp.Ordering.TheVariants.{Equal}
 use Rattle.partition.specs.Partition.{of_row}
 use Rattle.expr.specs.Holds.{Tests, meets, holds}
 use Rattle.expr.specs.Operators.{Unary}
@@ -40,9 +40,9 @@ module _ {A B : Type 0} (rows : Tests A) (parts : Tests B) (Held : A → Type 0)
   sound_by Strict part leaf q k = k
   sound_by Older part leaf q k = k
 
-  module _ (value : A → Res (Row B)) (never : (v : A) → value v ≡ ok missing → ⊥) (question : Question) where
+  module _ (value : A → Res (Row B)) (never : (v : A) → value v ≡ Ok missing → ⊥) (question : Question) where
     pub tests_sound : (x : Test A) (q : Test B) → SameMissing x q
-        → ((v : A) (p : B) → Held v → value v ≡ ok (present p) → Demanded question (meets rows x v) (meets parts q p))
+        → ((v : A) (p : B) → Held v → value v ≡ Ok (present p) → Demanded question (meets rows x v) (meets parts q p))
         → Sound question (of_row value) (test x) (test q)
     tests_sound x q same k = sound_by question (of_row value) (test x) (test q) go
       where
@@ -58,7 +58,7 @@ module _ {A B : Type 0} (rows : Tests A) (parts : Tests B) (Held : A → Type 0)
 
 -- where each row is its own partition value
 module _ {A : Type 0} (by : Tests A) (equal : (a b : A) → by.compare a b ≡ Equal → a ≡ b) (Held : A → Type 0) (part : Row A → Res (Row A))
-    (same : (r p : Row A) → part r ≡ ok p → r ≡ p) where
+    (same : (r p : Row A) → part r ≡ Ok p → r ≡ p) where
   pub itself_sound : (question : Question) (leaf : Predicate A) → Sound by by Held question part leaf (in_order by.compare leaf)
   itself_sound question leaf =
       sound_by

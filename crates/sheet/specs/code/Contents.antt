@@ -1,4 +1,4 @@
--- Contents of records: which are UTF-8, and what the code knows of a value, by a flag and the bytes that count where it is set. Assumes nothing.
+-- Contents of records, and of a value that may be missing: which are UTF-8, and the numbers that they are. Assumes nothing.
 use Rattle.std.specs.Prelude.{ℕ, Bool, true, ◌&&◌, List, [], ◌∷◌, ◌⊎◌, ◌≡◌, ℤ, pos}
 use Rattle.values.specs.Outcomes.{Row, missing, present}
 use Rattle.values.specs.Types.{Layout, number, bytes, layout}

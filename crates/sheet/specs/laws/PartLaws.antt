@@ -1,16 +1,17 @@
 -- Laws of records: parts of a part, runs of zeros, when a record's content is a literal, and where a value's is. Assumes nothing.
-use Rattle.std.specs.Prelude.{ℕ, zero, suc, ◌+◌, ◌-◌, ◌*◌, ◌^◌, ◌≤◌, ◌<◌, Bool, true, false, ◌&&◌, List, [], ◌∷◌, ◌≡◌, refl, eqb, length, take, drop}
+use Rattle.std.specs.Prelude.{ℕ, zero, suc, ◌+◌, ◌-◌, ◌*◌, ◌^◌, ◌≤◌, ◌<◌, Bool, true, false, ◌&&◌, List, [], ◌∷◌, ◌≡◌, refl, eqb, length, take, drop, Ok}
 use Rattle.std.proofs.Common.{mul-suc, arith, sym, ap, ◌∙◌, lit<, lit≤, length-drop, take_all, take-take, drop-drop, length-take-le, eq-eqb, ne_eqb}
 use Rattle.std.proofs.Math.Nat.{one-le-pow}
 use Rattle.std.proofs.Math.Seq.{take-nil}
-use Rattle.values.specs.Outcomes.{ok, need, ◌>>◌, present}
+use Rattle.values.specs.Outcomes.{need, ◌>>◌, present}
 use Rattle.values.specs.laws.TestLaws.{and_both}
 use Rattle.values.specs.Types.{Layout, number, layout, content_size, fits}
 use Rattle.values.specs.laws.WordLaws.{word_split}
 use Rattle.values.specs.Words.{le_number, field, word, zero_at, signed}
 use Rattle.values.specs.declared.datatypes.PrimitiveType.{PrimitiveType}
 use Rattle.values.specs.declared.error.ErrorKind.TheVariants.{Malformed}
-use Rattle.sheet.specs.code.ReadAnswers.{is_ok, content_at, number_at}
+use Rattle.sheet.specs.code.Placed.{content_at, number_at}
+use Rattle.sheet.specs.code.ReadAnswers.{is_ok}
 use Rattle.sheet.specs.laws.RecordLaws.{fits_room, content_read, value_read}
 use Rattle.sheet.specs.Records.{header_size, record_size, next_in, length_in, content, value, record_at}
 
@@ -59,12 +60,12 @@ zero_split at n m s =
 
 -- no type has longer contents than a record has room for
 three_needs : {A : Type 0} (a b c : Bool) (x : A)
-    → (need a Malformed >> (need b Malformed >> (need c Malformed >> ok x))) ≡ (need (a && (b && c)) Malformed >> ok x)
+    → (need a Malformed >> (need b Malformed >> (need c Malformed >> Ok x))) ≡ (need (a && (b && c)) Malformed >> Ok x)
 three_needs true true c x = refl
 three_needs true false c x = refl
 three_needs false b c x = refl
 
-need_ok : {A : Type 0} (a : Bool) (x : A) → is_ok (need a Malformed >> ok x) ≡ a
+need_ok : {A : Type 0} (a : Bool) (x : A) → is_ok (need a Malformed >> Ok x) ≡ a
 need_ok true x = refl
 need_ok false x = refl
 
@@ -73,7 +74,7 @@ module _ (l : Layout) (r : List ℕ) where
   abbrev tested : Bool
   tested = eqb (length r) record_size && (fits l (length_in r) && zero_at (header_size + length_in r) (content_size - length_in r) r)
 
-  content_tested : content l r ≡ (need tested Malformed >> ok (field header_size (length_in r) r))
+  content_tested : content l r ≡ (need tested Malformed >> Ok (field header_size (length_in r) r))
   unfolding content
   content_tested = three_needs (eqb (length r) record_size) (fits l (length_in r)) _ _
 
@@ -81,7 +82,7 @@ module _ (l : Layout) (r : List ℕ) where
   content_ok = rw content_tested (need_ok tested (field header_size (length_in r) r))
 
   -- a literal's content is the part that its length says, and anything else is 3
-  pub content_by : {b : Bool} → is_ok (content l r) ≡ b → content l r ≡ (need b Malformed >> ok (field header_size (length_in r) r))
+  pub content_by : {b : Bool} → is_ok (content l r) ≡ b → content l r ≡ (need b Malformed >> Ok (field header_size (length_in r) r))
   content_by e = rw (← e, content_ok) content_tested
 
   pub content_fits : is_ok (content l r) ≡ true → fits l (length_in r) ≡ true
@@ -116,7 +117,7 @@ pub record ValueContent (ty : PrimitiveType) (v bs : List ℕ) : Type 0 where
   pub is : content_at v 0 ≡ bs
   pub fit : fits (layout ty) (length bs) ≡ true
 
-pub value_content : (ty : PrimitiveType) (v bs : List ℕ) → value (layout ty) v ≡ ok (present bs) → ValueContent ty v bs
+pub value_content : (ty : PrimitiveType) (v bs : List ℕ) → value (layout ty) v ≡ Ok (present bs) → ValueContent ty v bs
 value_content ty v bs e =
     let read = value_read ty v (present bs) e in
     let c = content_read (layout ty) v bs read.is_content in

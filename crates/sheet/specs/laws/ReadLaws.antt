@@ -1,9 +1,9 @@
 -- What reading a leaf's literals and a row's value comes to: numbers are always read, and of a String all must be UTF-8. Assumes nothing.
-use Rattle.std.specs.Prelude.{ℕ, zero, suc, Bool, true, false, not, ◌&&◌, ◌||◌, List, [], ◌∷◌, map, ◌≡◌, refl, length, take}
+use Rattle.std.specs.Prelude.{ℕ, zero, suc, Bool, true, false, not, ◌&&◌, ◌||◌, List, [], ◌∷◌, map, ◌≡◌, refl, length, take, Ok}
 use Rattle.std.proofs.Common.{arith, ap₂, ◌∙◌, length-take-le, eqb-true}
 use Rattle.std.proofs.Math.Bool.{or-true, and-true}
 use Rattle.std.proofs.lemmas.List.{length-map}
-use Rattle.values.specs.Outcomes.{Res, ok, need, each, ◌>>=◌, ◌>>◌, Row, missing, present}
+use Rattle.values.specs.Outcomes.{Res, need, each, ◌>>=◌, ◌>>◌, Row, missing, present}
 use Rattle.values.specs.Types.{Layout, number, bytes, same_type}
 use Rattle.values.specs.Utf8.{utf8}
 use Rattle.values.specs.Words.{le_number, signed}
@@ -18,21 +18,21 @@ use Rattle.expr.specs.Predicates.{Predicate, unary, test, binary, set, operator_
 use Rattle.sheet.specs.Values.{read_number, read_bytes, each_literal, read_row, map_row, map_literals}
 use Rattle.sheet.specs.code.Contents.{all_utf8, row_utf8, number_in}
 use Rattle.sheet.specs.laws.PartLaws.{number_of_content}
-use Rattle.sheet.specs.code.ReadAnswers.{content_at, number_at, LiteralAt, Placed, contents_at, numbers_at}
+use Rattle.sheet.specs.code.Placed.{content_at, number_at, LiteralAt, Placed, contents_at, numbers_at}
 use Rattle.sheet.specs.Records.{length_in, record_at}
 
 -- ---- reading that never refuses: numbers
 module _ {A B : Type 0} (f : A → B) where
-  each_read : (xs : List A) → each (λ x. ok (f x)) xs ≡ ok (map f xs)
+  each_read : (xs : List A) → each (λ x. Ok (f x)) xs ≡ Ok (map f xs)
   each_read [] = refl
   each_read (x ∷ xs) = rw (each_read xs)
 
-  literals_read : (leaf : Predicate A) → each_literal (λ x. ok (f x)) leaf ≡ ok (map_literals f leaf)
+  literals_read : (leaf : Predicate A) → each_literal (λ x. Ok (f x)) leaf ≡ Ok (map_literals f leaf)
   literals_read (unary o) = refl
   literals_read (test (binary o l)) = refl
   literals_read (test (set o ls)) = rw (each_read ls)
 
-  row_read : (r : Row A) → read_row (λ x. ok (f x)) r ≡ ok (map_row f r)
+  row_read : (r : Row A) → read_row (λ x. Ok (f x)) r ≡ Ok (map_row f r)
   row_read missing = refl
   row_read (present v) = refl
 
@@ -52,20 +52,20 @@ map_leaf f other (one o) [] = refl
 map_leaf f other (one o) (l ∷ ls) = refl
 map_leaf f other (many o) ls = refl
 
-pub number_literals : (n : ℕ) (leaf : Predicate (List ℕ)) → each_literal (read_number n) leaf ≡ ok (map_literals (λ bs. signed n (le_number bs)) leaf)
+pub number_literals : (n : ℕ) (leaf : Predicate (List ℕ)) → each_literal (read_number n) leaf ≡ Ok (map_literals (λ bs. signed n (le_number bs)) leaf)
 number_literals n leaf = literals_read (λ bs. signed n (le_number bs)) leaf
 
-pub number_row_lem : (n : ℕ) (r : Row (List ℕ)) → read_row (read_number n) r ≡ ok (map_row (λ bs. signed n (le_number bs)) r)
+pub number_row_lem : (n : ℕ) (r : Row (List ℕ)) → read_row (read_number n) r ≡ Ok (map_row (λ bs. signed n (le_number bs)) r)
 number_row_lem n r = row_read (λ bs. signed n (le_number bs)) r
 
 -- ---- reading that refuses what fails a test: byte strings
 module _ {A : Type 0} (e : ErrorKind) where
-  then_ok : {B : Type 0} (a : Bool) (x : A) (f : A → B) → ((need a e >> ok x) >>= λ y. ok (f y)) ≡ (need a e >> ok (f x))
+  then_ok : {B : Type 0} (a : Bool) (x : A) (f : A → B) → ((need a e >> Ok x) >>= λ y. Ok (f y)) ≡ (need a e >> Ok (f x))
   then_ok true x f = refl
   then_ok false x f = refl
 
   pub then_need : {B C : Type 0} (a b : Bool) (x : A) (y : B) (f : A → B → C)
-      → ((need a e >> ok x) >>= λ u. (need b e >> ok y) >>= λ v. ok (f u v)) ≡ (need a e >> (need b e >> ok (f x y)))
+      → ((need a e >> Ok x) >>= λ u. (need b e >> Ok y) >>= λ v. Ok (f u v)) ≡ (need a e >> (need b e >> Ok (f x y)))
   then_need true true x y f = refl
   then_need true false x y f = refl
   then_need false b x y f = refl
@@ -81,28 +81,28 @@ module _ (s : Bool) where
   abbrev asked : List ℕ → Res (List ℕ)
   asked bs = do
     need (not s || utf8 bs) NotUtf8
-    ok bs
+    Ok bs
 
-  each_asked : (ls : List (List ℕ)) → each asked ls ≡ (need (not s || all_utf8 ls) NotUtf8 >> ok ls)
+  each_asked : (ls : List (List ℕ)) → each asked ls ≡ (need (not s || all_utf8 ls) NotUtf8 >> Ok ls)
   each_asked [] = rw (or-true (not s))
   each_asked (l ∷ ls) =
-      rw (each_asked ls) (then_need NotUtf8 (not s || utf8 l) (not s || all_utf8 ls) l ls ◌∷◌) ∙ both_asked s (utf8 l) (all_utf8 ls) (ok (l ∷ ls))
+      rw (each_asked ls) (then_need NotUtf8 (not s || utf8 l) (not s || all_utf8 ls) l ls ◌∷◌) ∙ both_asked s (utf8 l) (all_utf8 ls) (Ok (l ∷ ls))
 
-  literals_asked : (leaf : Predicate (List ℕ)) → each_literal asked leaf ≡ (need (not s || all_utf8 (literals_in leaf)) NotUtf8 >> ok leaf)
+  literals_asked : (leaf : Predicate (List ℕ)) → each_literal asked leaf ≡ (need (not s || all_utf8 (literals_in leaf)) NotUtf8 >> Ok leaf)
   literals_asked (unary o) = rw (or-true (not s))
   literals_asked (test (binary o l)) = rw (and-true (utf8 l)) (then_ok NotUtf8 (not s || utf8 l) l (λ x. test (binary o x)))
   literals_asked (test (set o ls)) = rw (each_asked ls) (then_ok NotUtf8 (not s || all_utf8 ls) ls (λ xs. test (set o xs)))
 
-  row_asked : (r : Row (List ℕ)) → read_row asked r ≡ (need (not s || row_utf8 r) NotUtf8 >> ok r)
+  row_asked : (r : Row (List ℕ)) → read_row asked r ≡ (need (not s || row_utf8 r) NotUtf8 >> Ok r)
   row_asked missing = rw (or-true (not s))
   row_asked (present v) = then_ok NotUtf8 (not s || utf8 v) v present
 
 module _ (column : PrimitiveType) where
   pub bytes_literals : (leaf : Predicate (List ℕ))
-      → each_literal (read_bytes column) leaf ≡ (need (not (same_type column String) || all_utf8 (literals_in leaf)) NotUtf8 >> ok leaf)
+      → each_literal (read_bytes column) leaf ≡ (need (not (same_type column String) || all_utf8 (literals_in leaf)) NotUtf8 >> Ok leaf)
   bytes_literals leaf = literals_asked (same_type column String) leaf
 
-  pub bytes_row : (r : Row (List ℕ)) → read_row (read_bytes column) r ≡ (need (not (same_type column String) || row_utf8 r) NotUtf8 >> ok r)
+  pub bytes_row : (r : Row (List ℕ)) → read_row (read_bytes column) r ≡ (need (not (same_type column String) || row_utf8 r) NotUtf8 >> Ok r)
   bytes_row r = row_asked (same_type column String) r
 
 -- ---- a literal's number is that of its content

@@ -1,8 +1,8 @@
 -- Bytes that are no record or no sheet are refused with one error only: 3. Assumes nothing.
-use Rattle.std.specs.Prelude.{ℕ, zero, suc, ◌+◌, ◌-◌, ◌*◌, ◌%◌, Bool, true, false, cond, List, [], ◌∷◌, ◌≡◌, refl, ltb, leb, eqb, length}
+use Rattle.std.specs.Prelude.{ℕ, zero, suc, ◌+◌, ◌-◌, ◌*◌, ◌%◌, Bool, true, false, cond, List, [], ◌∷◌, ◌≡◌, refl, ltb, leb, eqb, length, Ok, Err}
 use Rattle.std.proofs.Common.{sym, subst}
 use Rattle.values.specs.Numbered.{Numbered, ◌is◌, find}
-use Rattle.values.specs.Outcomes.{Res, ok, err, need, each, ◌>>=◌, ◌>>◌}
+use Rattle.values.specs.Outcomes.{Res, need, each, ◌>>=◌, ◌>>◌}
 use Rattle.values.specs.laws.OutcomeLaws.{ok_not_err}
 use Rattle.values.specs.Transforms.{transforms, width_of, transform_of}
 use Rattle.values.specs.Types.{Layout, content_size, types, layout, fits}
@@ -16,19 +16,19 @@ use Rattle.sheet.specs.Sheets.{chain, head_size, head, fields, sheet}
 
 -- ---- any step: its refusals are all among those that p holds of
 pub record Only {A : Type 0} (p : ErrorKind → Type 0) (r : Res A) : Type 0 where
-  pub only : (e : ErrorKind) → r ≡ err e → p e
+  pub only : (e : ErrorKind) → r ≡ Err e → p e
 
 module _ {p : ErrorKind → Type 0} where
-  pub only_ok : {A : Type 0} {x : A} → Only p (ok x)
+  pub only_ok : {A : Type 0} {x : A} → Only p (Ok x)
   only_ok = record { only = λ e q. ok_not_err (sym q) }
 
-  pub only_err : {A : Type 0} {e : ErrorKind} → p e → Only {A = A} p (err e)
+  pub only_err : {A : Type 0} {e : ErrorKind} → p e → Only {A = A} p (Err e)
   only_err {A} {e} h = record { only = λ f q. let same : e ≡ f = cc in subst p same h }
 
   -- a step after another, with what the first gave
-  pub only_then : {A B : Type 0} (r : Res A) (f : A → Res B) → Only p r → ((x : A) → r ≡ ok x → Only p (f x)) → Only p (r >>= f)
-  only_then (ok x) f h k = k x refl
-  only_then (err e) f h k = only_err (h.only e refl)
+  pub only_then : {A B : Type 0} (r : Res A) (f : A → Res B) → Only p r → ((x : A) → r ≡ Ok x → Only p (f x)) → Only p (r >>= f)
+  only_then (Ok x) f h k = k x refl
+  only_then (Err e) f h k = only_err (h.only e refl)
 
   pub only_bind : {A B : Type 0} (r : Res A) (f : A → Res B) → Only p r → ((x : A) → Only p (f x)) → Only p (r >>= f)
   only_bind r f h k = only_then r f h (λ x e. k x)
@@ -74,12 +74,12 @@ value_only l r =
 
 pub find_only : {X : Type 0} (xs : List (Numbered X)) (n : ℕ) → OnlyMalformed (find xs n)
 find_only [] n = only_err refl
-find_only (k is x ∷ xs) n = only_cond (eqb n k) (ok x) (find xs n) only_ok (find_only xs n)
+find_only (k is x ∷ xs) n = only_cond (eqb n k) (Ok x) (find xs n) only_ok (find_only xs n)
 
 transform_only : (number width : ℕ) → OnlyMalformed (transform_of number width)
 unfolding transform_of
 transform_only number width =
-    only_bind (find (transforms width) number) _ (find_only (transforms width) number) (λ t. must (eqb width (width_of t)) (ok t) only_ok)
+    only_bind (find (transforms width) number) _ (find_only (transforms width) number) (λ t. must (eqb width (width_of t)) (Ok t) only_ok)
 
 pub head_only : (type transform width : ℕ) → OnlyMalformed (head type transform width)
 unfolding head
@@ -97,8 +97,8 @@ pub chain_only : (steps : ℕ) (s : List ℕ) (k : ℕ) → OnlyMalformed (chain
 chain_only zero s k = only_ok
 chain_only (suc steps) s k =
     let next = next_in (record_at s k) in
-    let on = only_bind (chain steps s next) (λ (ns : List ℕ). ok (next ∷ ns)) (chain_only steps s next) (λ ns. only_ok) in
-    only_cond (eqb next 0) (ok []) _ only_ok (must (ltb k next) _ (must (ltb next (record_count s)) _ on))
+    let on = only_bind (chain steps s next) (λ (ns : List ℕ). Ok (next ∷ ns)) (chain_only steps s next) (λ ns. only_ok) in
+    only_cond (eqb next 0) (Ok []) _ only_ok (must (ltb k next) _ (must (ltb next (record_count s)) _ on))
 
 leaf_only : {A : Type 0} (a : Operator) (ls : List A) → OnlyMalformed (with_literals a ls)
 leaf_only (none o) [] = only_ok

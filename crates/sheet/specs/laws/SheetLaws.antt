@@ -1,13 +1,13 @@
 -- Sheets: the numbers on a chain, and what a sheet that is read says of its bytes, its head and its literals. Assumes nothing.
 use Prim.Native.Nat.{ℕ, zero, suc, ◌+◌, ◌-◌, ◌*◌, ◌%◌, ◌≤◌, ◌<◌}
 use Rattle.std.proofs.Common.{arith, ◌∙◌}
-use Rattle.std.specs.Prelude.{Bool, true, false, cond, List, [], ◌∷◌, ◌≡◌, refl, ltb, leb, eqb}
+use Rattle.std.specs.Prelude.{Bool, true, false, cond, List, [], ◌∷◌, ◌≡◌, refl, ltb, leb, eqb, Ok}
 use Rattle.std.proofs.Math.Path.{subst}
 use Rattle.std.proofs.Math.ListN.{length}
 use borrow.Author.Tests.{ltb-true, leb-true, eqb-true, le-leb}
 use Rattle.values.specs.code.Places.{AllOf}
 use Rattle.values.specs.Numbered.{find}
-use Rattle.values.specs.Outcomes.{Res, ok, need, each, ◌>>=◌, ◌>>◌}
+use Rattle.values.specs.Outcomes.{Res, need, each, ◌>>=◌, ◌>>◌}
 use Rattle.values.specs.laws.OutcomeLaws.{ok_inj, passing, passed, gone, each_length, each_all}
 use Rattle.values.specs.Types.{layout, fits}
 use Rattle.values.specs.Words.{word, zero_at, AllBytes}
@@ -38,11 +38,11 @@ rising_few h (higher a b rest) = omega (arith, rising_few b rest)
 
 -- one step of the chain, by its tests
 abbrev step : Bool → Bool → Bool → ℕ → Res (List ℕ) → Res (List ℕ)
-step z a b n rest = cond z (ok []) do
+step z a b n rest = cond z (Ok []) do
   need a Malformed
   need b Malformed
   ns ← rest
-  ok (n ∷ ns)
+  Ok (n ∷ ns)
 
 step_same : (z a b : Bool) (n : ℕ) (x y : Res (List ℕ)) → (a ≡ true → b ≡ true → x ≡ y) → step z a b n x ≡ step z a b n y
 step_same true a b n x y h = refl
@@ -61,8 +61,8 @@ module _ (s : List ℕ) where
       let above = ltb-true k next c in
       chain_enough m n next (ltb-true next (record_count s) d) (omega arith) (omega arith)
 
-  step_rises : (z : Bool) (k n : ℕ) (rest : Res (List ℕ)) {ns : List ℕ} → ((ms : List ℕ) → rest ≡ ok ms → Rising s n ms)
-      → step z (ltb k n) (ltb n (record_count s)) n rest ≡ ok ns → Rising s k ns
+  step_rises : (z : Bool) (k n : ℕ) (rest : Res (List ℕ)) {ns : List ℕ} → ((ms : List ℕ) → rest ≡ Ok ms → Rising s n ms)
+      → step z (ltb k n) (ltb n (record_count s)) n rest ≡ Ok ns → Rising s k ns
   step_rises true k n rest h e = subst (Rising s k) (ok_inj e) none
   step_rises false k n rest h e =
       let a = passed (ltb k n) Malformed _ e in
@@ -70,12 +70,12 @@ module _ (s : List ℕ) where
       let c = gone rest _ b.1 in
       subst (Rising s k) (ok_inj c.2) (higher (ltb-true k n a.0) (ltb-true n (record_count s) b.0) (h c.0 c.1))
 
-  pub chain_rises : (steps k : ℕ) {ns : List ℕ} → chain steps s k ≡ ok ns → Rising s k ns
+  pub chain_rises : (steps k : ℕ) {ns : List ℕ} → chain steps s k ≡ Ok ns → Rising s k ns
   chain_rises zero k e = subst (Rising s k) (ok_inj e) none
   chain_rises (suc steps) k e = let next = next_in (record_at s k) in step_rises (eqb next 0) k next (chain steps s next) (λ ms. chain_rises steps next) e
 
 -- ---- the fields of a head
-pub fields_head : (r : List ℕ) (h : Head) → fields r ≡ ok h → head (word 4 1 r) (word 5 1 r) (word 8 4 r) ≡ ok h
+pub fields_head : (r : List ℕ) (h : Head) → fields r ≡ Ok h → head (word 4 1 r) (word 5 1 r) (word 8 4 r) ≡ Ok h
 unfolding fields
 fields_head r h e =
     let a = gone (head (word 4 1 r) (word 5 1 r) (word 8 4 r)) _ e in
@@ -89,7 +89,7 @@ all_any [] = tt
 all_any (x ∷ xs) = (tt, all_any xs)
 
 pub record Read (most : ℕ) (s : List ℕ) (x : Sheet) : Type 0 where
-  pub head_is : head (word 4 1 s) (word 5 1 s) (word 8 4 s) ≡ ok x.head
+  pub head_is : head (word 4 1 s) (word 5 1 s) (word 8 4 s) ≡ Ok x.head
   pub fit : Fits x.head.column (literals_in x.leaf)
   pub few : length (literals_in x.leaf) ≤ most
   pub are_bytes : AllBytes s → AllOf AllBytes (literals_in x.leaf)
@@ -101,15 +101,15 @@ pub record Read (most : ℕ) (s : List ℕ) (x : Sheet) : Type 0 where
 module _ (most : ℕ) (s : List ℕ) where
   put_together : (o : PredicateOperator) (h : Head) (ns : List ℕ) (cs : List (List ℕ)) (l : Predicate (List ℕ))
       → 0 < length s → length s % record_size ≡ 0 → length s ≤ record_size * suc most
-      → head (word 4 1 s) (word 5 1 s) (word 8 4 s) ≡ ok h
-      → chain (record_count s) s 0 ≡ ok ns
-      → each (λ n. content (layout h.column) (record_at s n)) ns ≡ ok cs → predicate o cs ≡ ok l → Read most s (record { head = h; leaf = l })
+      → head (word 4 1 s) (word 5 1 s) (word 8 4 s) ≡ Ok h
+      → chain (record_count s) s 0 ≡ Ok ns
+      → each (λ n. content (layout h.column) (record_at s n)) ns ≡ Ok cs → predicate o cs ≡ Ok l → Read most s (record { head = h; leaf = l })
   put_together o h ns cs l some even short head_is on contents leaf =
       let ty = h.column in
       let read : ℕ → Res (List ℕ) = λ n. content (layout ty) (record_at s n) in
       let back = (predicate_parts o cs l leaf).1 in
       let few = rising_few {low = 0} (omega arith) (chain_rises s (record_count s) 0 on) in
-      let fit : (n : ℕ) (bs : List ℕ) → read n ≡ ok bs → Unit {0} → fits (layout ty) (length bs) ≡ true = λ n bs e h. content_fits ty (record_at s n) bs e in
+      let fit : (n : ℕ) (bs : List ℕ) → read n ≡ Ok bs → Unit {0} → fits (layout ty) (length bs) ≡ true = λ n bs e h. content_fits ty (record_at s n) bs e in
       record {
         head_is = head_is;
         fit = rw back (each_all read (λ n. Unit {0}) (λ bs. fits (layout ty) (length bs) ≡ true) fit ns contents (all_any ns));
@@ -122,7 +122,7 @@ module _ (most : ℕ) (s : List ℕ) where
         length_is = omega arith;
       }
 
-  pub sheet_read_lem : (x : Sheet) → sheet most s ≡ ok x → Read most s x
+  pub sheet_read_lem : (x : Sheet) → sheet most s ≡ Ok x → Read most s x
   unfolding sheet
   sheet_read_lem x e =
       let some = passed (ltb 0 (length s)) Malformed _ e in
@@ -137,7 +137,7 @@ module _ (most : ℕ) (s : List ℕ) where
       (put_together o.0 h.0 r.0 c.0 l.0 (ltb-true _ _ some.0) (eqb-true _ _ even.0) (leb-true _ _ short.0) (fields_head s h.0 h.1) r.1 c.1 l.1)
 
   -- a sheet that is read is read the same where more literals are allowed
-  pub wider : (more : ℕ) (x : Sheet) → sheet most s ≡ ok x → most ≤ more → sheet more s ≡ ok x
+  pub wider : (more : ℕ) (x : Sheet) → sheet most s ≡ Ok x → most ≤ more → sheet more s ≡ Ok x
   unfolding sheet
   wider more x e k =
       let some = passed (ltb 0 (length s)) Malformed _ e in

@@ -1,46 +1,37 @@
--- What the code that reads summaries answers, as the definitions have it, and where the ends are in the bytes. Assumes nothing.
-use Rattle.std.specs.Prelude.{ℕ, Bool, true, false, not, ◌&&◌, ◌||◌, List}
-use Rattle.values.specs.Outcomes.{Res, ok, err, Row, missing, present}
-use Rattle.values.specs.Types.{Layout, same_type}
+-- A summary that was read, as the definitions have it, and what its ends are asked. Assumes nothing.
+use Rattle.std.specs.Prelude.{ℕ, Bool, true, not, ◌&&◌, ◌||◌, List, Ok, Err, Option, Some, None}
+use Rattle.values.specs.Outcomes.{Res}
+use Rattle.values.specs.Types.{same_type}
 use Rattle.values.specs.Utf8.{utf8}
 use Rattle.values.specs.declared.datatypes.PrimitiveType.{PrimitiveType}
 use Rattle.values.specs.declared.datatypes.PrimitiveType.TheVariants.{String}
-use Rattle.sheet.specs.code.ReadAnswers.{content_at, LiteralAt}
 use Rattle.summary.specs.Summaries as summaries
-use Rattle.summary.specs.Summaries.{Ends, none_present, ◌to◌, some_present}
+use Rattle.summary.specs.Summaries.{none_present, ◌to◌}
+use Rattle.summary.specs.declared.summary.Ends.{Ends}
 use Rattle.summary.specs.declared.summary.Summary.{Summary}
-use Rattle.summary.specs.declared.summary.SummaryResult.{SummaryResult}
-use Rattle.summary.specs.declared.summary.SummaryResult.TheVariants as summary-result
 
--- whether a value record can be an end, where values are present or not
-abbrev pub is_end : {A : Type 0} → Bool → Res (Row A) → Bool
-is_end some (ok missing) = not some
-is_end some (ok (present v)) = some
-is_end some (err e) = false
+-- the contents of the ends
+abbrev pub ends_in : Option Ends → summaries.Ends (List ℕ)
+ends_in None = none_present
+ends_in (Some e) = e.lowest.now to e.highest.now
 
--- the ends are the contents of the first two records
-abbrev pub ends_at : Bool → List ℕ → Ends (List ℕ)
-ends_at true f = content_at f 0 to content_at f 1
-ends_at false f = none_present
+abbrev pub ends_told : Res (Option Ends) → Res (summaries.Ends (List ℕ))
+ends_told (Ok ends) = Ok (ends_in ends)
+ends_told (Err e) = Err e
 
--- those records are there and hold literals of the layout
-pub record EndsThere (l : Layout) (f : List ℕ) : Type 0 where
-  pub lowest : LiteralAt l f 0
-  pub highest : LiteralAt l f 1
+-- the summary that it is
+abbrev pub summary_of : Summary → summaries.Summary
+summary_of x = record { column = x.column; ends = ends_in x.ends; has_missing = x.missing }
+
+abbrev pub summary_told : Res Summary → Res summaries.Summary
+summary_told (Ok x) = Ok (summary_of x)
+summary_told (Err e) = Err e
 
 -- whether the ends are UTF-8
-abbrev pub ends_utf8 : Ends (List ℕ) → Bool
+abbrev pub ends_utf8 : summaries.Ends (List ℕ) → Bool
 ends_utf8 none_present = true
 ends_utf8 (l to h) = utf8 l && utf8 h
 
 -- whether they are what their type asks for
-abbrev pub ends_encoded : PrimitiveType → Ends (List ℕ) → Bool
+abbrev pub ends_encoded : PrimitiveType → summaries.Ends (List ℕ) → Bool
 ends_encoded column ends = not (same_type column String) || ends_utf8 ends
-
--- what is said of a file by what the code knows of it and the bytes of its summary
-abbrev pub summary_at : Summary → List ℕ → summaries.Summary
-summary_at y f = record { column = y.column; ends = ends_at y.present f; has_missing = y.missing }
-
-abbrev pub summary_result : Res summaries.Summary → SummaryResult
-summary_result (ok x) = summary-result.Ok (record { column = x.column; present = some_present x.ends; missing = x.has_missing })
-summary_result (err e) = summary-result.Err e

@@ -1,30 +1,27 @@
 -- The ends of a file: which are UTF-8 where their type asks for it, and their order, which is that of the values of the type. Assumes nothing.
-use Rattle.std.specs.Prelude.{ℕ, Bool, true, false, not, ◌&&◌, ◌||◌, List, ◌≡◌, refl}
+use Rattle.std.specs.Prelude.{ℕ, Bool, true, false, not, ◌&&◌, ◌||◌, List, ◌≡◌, refl, Ok}
 use Rattle.std.proofs.Math.Bool.{or-true}
-use Rattle.std.proofs.Common.{eqb-true}
 use Rattle.values.specs.Order.{compare_numbers, compare_bytes}
-use Rattle.values.specs.Outcomes.{ok, need, ◌>>=◌, ◌>>◌, Row, missing, present}
+use Rattle.values.specs.Outcomes.{need, ◌>>=◌, ◌>>◌, Row, missing, present}
 use Rattle.values.specs.Types.{number, bytes, layout, same_type}
 use Rattle.values.specs.Utf8.{utf8}
 use Rattle.values.specs.declared.datatypes.PrimitiveType.{PrimitiveType}
 use Rattle.values.specs.declared.datatypes.PrimitiveType.TheVariants.{String}
 use Rattle.values.specs.declared.error.ErrorKind.TheVariants.{NotUtf8}
 use Rattle.sheet.specs.Values.{read_bytes, map_row, number_of}
-use Rattle.sheet.specs.code.ReadAnswers.{content_at, number_at, LiteralAt}
-use Rattle.sheet.specs.laws.PartLaws.{number_of_content}
 use Rattle.summary.specs.EndValues.{map_ends, read_ends, compare_in, ordered, may_hold}
 use Rattle.summary.specs.Summaries.{Ends, none_present, ◌to◌}
 use Rattle.summary.specs.code.SummaryAnswers.{ends_encoded}
 
 -- ---- UTF-8
 pub ends_read : (column : PrimitiveType) (ends : Ends (List ℕ))
-    → read_ends (read_bytes column) ends ≡ (need (ends_encoded column ends) NotUtf8 >> ok ends)
+    → read_ends (read_bytes column) ends ≡ (need (ends_encoded column ends) NotUtf8 >> Ok ends)
 ends_read column none_present = rw (or-true (not (same_type column String)))
 ends_read column (l to h) = both (same_type column String) (utf8 l) (utf8 h)
   where
     both : (s a b : Bool)
-        → ((need (not s || a) NotUtf8 >> ok l) >>= λ x. (need (not s || b) NotUtf8 >> ok h) >>= λ y. ok (x to y))
-        ≡ (need (not s || (a && b)) NotUtf8 >> ok (l to h))
+        → ((need (not s || a) NotUtf8 >> Ok l) >>= λ x. (need (not s || b) NotUtf8 >> Ok h) >>= λ y. Ok (x to y))
+        ≡ (need (not s || (a && b)) NotUtf8 >> Ok (l to h))
     both true true true = refl
     both true true false = refl
     both true false b = refl
@@ -32,9 +29,6 @@ ends_read column (l to h) = both (same_type column String) (utf8 l) (utf8 h)
 
 -- ---- the order of contents is that of numbers, or of byte strings
 module _ (column : PrimitiveType) (n : ℕ) (is : layout column ≡ number n) where
-  pub number_end : (s : List ℕ) (k : ℕ) → LiteralAt (layout column) s k → number_at (layout column) s k ≡ number_of n (content_at s k)
-  number_end s k at = let e = rw is at at.fitting in rw is (number_of_content n s k (eqb-true _ n e))
-
   pub numbers_compared : (a b : List ℕ) → compare_in column a b ≡ compare_numbers (number_of n a) (number_of n b)
   numbers_compared a b = rw is
 

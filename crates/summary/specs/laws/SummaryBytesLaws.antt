@@ -1,8 +1,8 @@
 -- Summaries as bytes: the flag byte, the parts that say what a summary says, and a summary that is put together. Assumes nothing.
-use Rattle.std.specs.Prelude.{ℕ, zero, suc, ◌≤◌, ◌<◌, Bool, true, false, not, List, [], ◌∷◌, ◌++◌, ◌≡◌, refl, eqb, leb, length, take, drop}
+use Rattle.std.specs.Prelude.{ℕ, zero, suc, ◌≤◌, ◌<◌, Bool, true, false, not, List, [], ◌∷◌, ◌++◌, ◌≡◌, refl, eqb, leb, length, take, drop, Ok}
 use Rattle.std.proofs.Common.{arith, append_assoc, sym, ap, ◌∙◌, length-append, drop-cons, take_at, drop_at, take_all, take-add, drop-drop, leb-true, eqb-true, eq-eqb}
 use Rattle.values.specs.Numbered.{find}
-use Rattle.values.specs.Outcomes.{ok, Row, missing, present}
+use Rattle.values.specs.Outcomes.{Row, missing, present}
 use Rattle.values.specs.laws.OutcomeLaws.{ok_inj, ok_not_err, passing, going, passed, gone}
 use Rattle.values.specs.laws.TestLaws.{not_not}
 use Rattle.values.specs.laws.TypesLaws.{type_found, type_number_lem}
@@ -44,16 +44,16 @@ module _ {A : Type 0} where
   high_of none_present = missing
   high_of (l to h) = present h
 
-  ends_made : (ends : Ends A) → ends_of (not (some_present ends)) (low_of ends) (high_of ends) ≡ ok ends
+  ends_made : (ends : Ends A) → ends_of (not (some_present ends)) (low_of ends) (high_of ends) ≡ Ok ends
   ends_made none_present = refl
   ends_made (l to h) = refl
 
-  record EndsFound (none : Bool) (low high : Row A) (ends : Ends A) : Type 0 where
+  pub record EndsFound (none : Bool) (low high : Row A) (ends : Ends A) : Type 0 where
     none_is : none ≡ not (some_present ends)
-    low_is : low ≡ low_of ends
-    high_is : high ≡ high_of ends
+    pub low_is : low ≡ low_of ends
+    pub high_is : high ≡ high_of ends
 
-  ends_found : (none : Bool) (low high : Row A) (ends : Ends A) → ends_of none low high ≡ ok ends → EndsFound none low high ends
+  pub ends_found : (none : Bool) (low high : Row A) (ends : Ends A) → ends_of none low high ≡ Ok ends → EndsFound none low high ends
   ends_found true missing missing ends e = rw (← ok_inj e) (record { none_is = refl; low_is = refl; high_is = refl })
   ends_found true missing (present h) ends e = ok_not_err e
   ends_found true (present l) high ends e = ok_not_err e
@@ -66,8 +66,8 @@ pub record SummaryParts (f : List ℕ) (y : Summary) : Type 0 where
   pub sized : length f ≡ summary_size
   pub type_is : field type_at 1 f ≡ type_number y.column ∷ []
   pub flag_is : field flag_at 1 f ≡ flag_of y.has_missing (some_present y.ends) ∷ []
-  pub lowest : value (layout y.column) (record_at f 0) ≡ ok (low_of y.ends)
-  pub highest : value (layout y.column) (record_at f 1) ≡ ok (high_of y.ends)
+  pub lowest : value (layout y.column) (record_at f 0) ≡ Ok (low_of y.ends)
+  pub highest : value (layout y.column) (record_at f 1) ≡ Ok (high_of y.ends)
 
 -- the list of one byte, and its number
 field_one : (at : ℕ) (f : List ℕ) → at < length f → field at 1 f ≡ word at 1 f ∷ []
@@ -77,7 +77,7 @@ pub word_of_one : {b : ℕ} {bs : List ℕ} → bs ≡ b ∷ [] → le_number bs
 word_of_one e = ap le_number e ∙ omega arith
 
 -- a summary that was read has them
-pub summary_parts : (f : List ℕ) (y : Summary) → summary f ≡ ok y → SummaryParts f y
+pub summary_parts : (f : List ℕ) (y : Summary) → summary f ≡ Ok y → SummaryParts f y
 unfolding summary
 summary_parts f y e =
     let flag = word flag_at 1 f in
@@ -97,12 +97,12 @@ summary_parts f y e =
       sized = sized;
       type_is = field_one type_at f (omega arith) ∙ ap (λ b. b ∷ []) type;
       flag_is = field_one flag_at f (omega arith) ∙ ap (λ b. b ∷ []) flagged;
-      lowest = low.1 ∙ ap ok found.low_is;
-      highest = high.1 ∙ ap ok found.high_is;
+      lowest = low.1 ∙ ap Ok found.low_is;
+      highest = high.1 ∙ ap Ok found.high_is;
     })
 
 -- and what has them is read so
-pub summary_back : (f : List ℕ) (y : Summary) → SummaryParts f y → summary f ≡ ok y
+pub summary_back : (f : List ℕ) (y : Summary) → SummaryParts f y → summary f ≡ Ok y
 unfolding summary
 summary_back f y p =
     let says = flag_says y.has_missing (some_present y.ends) in
@@ -115,7 +115,7 @@ summary_back f y p =
     ∙ going _ p.lowest
     ∙ going _ p.highest
     ∙ going _ (ap (λ b. ends_of b (low_of y.ends) (high_of y.ends)) none ∙ ends_made y.ends)
-    ∙ ap (λ b. ok (record { column = y.column; ends = y.ends; has_missing = b })) (ap says_missing flag ∙ says.missing_said)
+    ∙ ap (λ b. Ok (record { column = y.column; ends = y.ends; has_missing = b })) (ap says_missing flag ∙ says.missing_said)
 
 -- ---- the parts in their order
 
@@ -126,8 +126,8 @@ before_flag f = take-add type_at 1 f ∙ ap (λ r. r ++ field type_at 1 f) (take
 pub summary_whole : (f : List ℕ) (y : Summary) → SummaryParts f y → f ≡ take flag_at f ++ (flag_of y.has_missing (some_present y.ends) ∷ [])
 summary_whole f y p = sym (take_all summary_size f (omega (arith, p.sized))) ∙ take-add flag_at 1 f ∙ ap (λ r. take flag_at f ++ r) p.flag_is
 
-module _ (low high : List ℕ) (y : Summary) (low_is : value (layout y.column) low ≡ ok (low_of y.ends))
-    (high_is : value (layout y.column) high ≡ ok (high_of y.ends)) where
+module _ (low high : List ℕ) (y : Summary) (low_is : value (layout y.column) low ≡ Ok (low_of y.ends))
+    (high_is : value (layout y.column) high ≡ Ok (high_of y.ends)) where
   abbrev type : ℕ
   type = type_number y.column
 
@@ -153,7 +153,7 @@ module _ (low high : List ℕ) (y : Summary) (low_is : value (layout y.column) l
   after_high = sym (drop-drop record_size record_size made) ∙ ap (drop record_size) after_low ∙ drop_at high (type ∷ flag ∷ []) record_size high_size
 
   -- two value records, and the type byte and the flag byte behind them
-  pub summary_made : summary (low ++ high ++ (type ∷ []) ++ (flag ∷ [])) ≡ ok y
+  pub summary_made : summary (low ++ high ++ (type ∷ []) ++ (flag ∷ [])) ≡ Ok y
   summary_made = summary_back made y (record {
     sized = ap length as_one ∙ omega (arith, length-append low (high ++ (type ∷ flag ∷ [])), length-append high (type ∷ flag ∷ []), low_size, high_size);
     type_is = ap (take 1) after_high;

@@ -1,8 +1,10 @@
 -- Laws of text: digits one by one, and how long the parts of a line are at the most. Assumes nothing.
-use Rattle.std.specs.Prelude.{ℕ, zero, suc, ◌+◌, ◌-◌, ◌*◌, ◌/◌, ◌%◌, ◌^◌, ◌≤◌, ◌<◌, Bool, true, false, cond, List, [], ◌∷◌, ◌++◌, ◌≡◌, refl, ltb, ℤ, pos, negsuc, length}
+use Rattle.std.specs.Prelude.{ℕ, zero, suc, ◌+◌, ◌-◌, ◌*◌, ◌/◌, ◌%◌, ◌^◌, ◌≤◌, ◌<◌, Bool, true, false, cond, List, [], ◌∷◌, ◌++◌, ◌≡◌, refl, ltb, ℤ, pos, negsuc, length, Ok, Err}
 use Rattle.std.proofs.Common.{arith, ap, length-append, ltb-true, ltb-false, lt-ltb, le-ltb, leb-true}
+use Rattle.std.proofs.lemmas.Fmt.{decimal_by_steps}
+use Rattle.std.specs.Fmt as fmt
 use Rattle.std.specs.Int.Signed.{mag}
-use Rattle.values.specs.Outcomes.{Res, ok, err}
+use Rattle.values.specs.Outcomes.{Res}
 use Rattle.values.specs.Types.{number, layout, content_size, fits, half}
 use Rattle.values.specs.Words.{le_number, signed}
 use Rattle.values.specs.declared.datatypes.PrimitiveType.{PrimitiveType}
@@ -48,6 +50,20 @@ digits_few (suc k) n h = go (digits_few k (n / 10)) (ltb n 10) refl
     go : (n / 10 < 10 ^ suc k → length (digits (n / 10)) ≤ suc k) → (t : Bool) → ltb n 10 ≡ t → length (digits n) ≤ suc (suc k)
     go shorter true e = rw (digits_one n (ltb-true n 10 e)) (omega arith)
     go shorter false e = let rest = shorter (omega arith) in rw (digits_more n (ltb-false n 10 e), length-append) (omega arith)
+
+-- as std prints them
+pub digits_printed : (n : ℕ) → n < 2 ^ 64 → fmt.decimal n ≡ digits n
+digits_printed n h = decimal_by_steps (λ m ds. ds ≡ digits m) one more n h
+  where
+    one : (m : ℕ) → m < 10 → (48 + m) ∷ [] ≡ digits m
+    one m h = rw (digits_one m h, lt-ltb m 10 h)
+
+    more : (m : ℕ) (ds : List ℕ) → 10 ≤ m → ds ≡ digits (m / 10) → ds ++ ((48 + m % 10) ∷ []) ≡ digits m
+    more m ds h e = rw (digits_more m h, e, lt-ltb (m % 10) 10 (omega arith))
+
+pub decimal_printed : (z : ℤ) → mag z < 2 ^ 63 → fmt.signed_decimal z ≡ decimal z
+decimal_printed (pos n) h = digits_printed n (omega arith)
+decimal_printed (negsuc n) h = ap (λ ds. 45 ∷ ds) (digits_printed (suc n) (omega arith))
 
 -- ---- literals
 
@@ -126,12 +142,12 @@ predicate_few : (answer : List ℕ) → length (spaced (answer_words answer)) �
 predicate_few answer = go (sheet holds_limit answer) refl
   where
     go : (r : Res Sheet) → sheet holds_limit answer ≡ r → length (spaced (words_read r)) ≤ predicate_size
-    go (ok x) e =
+    go (Ok x) e =
         let read = sheet_read_lem holds_limit answer x e in
         let o = operator_in x.leaf in
         let operator = digits_few 2 (operator_number o) (three_digits o) in
         rw length-append (omega (arith, read.few, operator, literals_few x.head.column (literals_in x.leaf) read.fit))
-    go (err e) d = omega arith
+    go (Err e) d = omega arith
 
 after_zero_few : (n : ℕ) (answer : List ℕ) → length (spaced (after_zero n (answer_words answer))) ≤ predicate_size
 after_zero_few zero answer = predicate_few answer

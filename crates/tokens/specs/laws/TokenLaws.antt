@@ -1,12 +1,10 @@
 -- Tokens by the byte at a place of the text, which is 0 past the end. Assumes nothing.
-use Rattle.std.specs.Prelude.{ℕ, zero, suc, ◌+◌, ◌<◌, true, false, List, [], ◌∷◌, ◌≡◌, refl, eqb, pos, neg_ℤ, length, drop, get_or}
-use Prim.Native.Char.{code}
-use Rattle.std.proofs.Common.{add-one, drop-cons, eq-eqb, ne_eqb}
+use Rattle.std.specs.Prelude.{ℕ, zero, suc, true, false, List, [], ◌∷◌, ◌≡◌, refl, pos, neg_ℤ, drop, get_or}
+use Rattle.std.proofs.Common.{drop-cons}
 use Rattle.std.proofs.Math.Seq.{drop-nil}
-use Rattle.values.specs.Characters.{is_letter, is_digit}
+use Rattle.values.specs.Characters.{is_digit}
 use Rattle.values.specs.laws.CharacterLaws.{passing_inside}
-use Rattle.values.specs.laws.TestLaws.{picks}
-use Rattle.tokens.specs.Tokens.{Token, unreadable, taken, decimal_at, minus_at, longest, token}
+use Rattle.tokens.specs.Tokens.{unreadable, taken, decimal_at, minus_at}
 
 pub minus_digit : (s : List ℕ) (i : ℕ) → is_digit (get_or s i 0) ≡ true → minus_at (drop i s) ≡ decimal_at (λ n. neg_ℤ (pos n)) (drop i s)
 minus_digit s i e = rw (drop-cons s i 0 (passing_inside is_digit refl s i e), e)
@@ -15,21 +13,3 @@ pub minus_other : (s : List ℕ) (i : ℕ) → is_digit (get_or s i 0) ≡ false
 minus_other [] i e = rw drop-nil
 minus_other (b ∷ s) zero e = rw e
 minus_other (b ∷ s) (suc i) e = minus_other s i e
-
-pub equals_inside : (s : List ℕ) (i : ℕ) → get_or s i 0 ≡ 61 → i < length s
-equals_inside s i e = passing_inside (λ b. eqb b 61) refl s i (eq-eqb (get_or s i 0) 61 e)
-
-module _ (with without : Token) where
-  pub longest_with : (s : List ℕ) (i : ℕ) → get_or s i 0 ≡ 61 → longest with without (drop i s) ≡ taken with (drop (i + 1) s)
-  longest_with s i e = rw (drop-cons s i 0 (equals_inside s i e), e, add-one)
-
-  pub longest_without : (s : List ℕ) (i : ℕ) → (get_or s i 0 ≡ 61 → ⊥) → longest with without (drop i s) ≡ taken without (drop i s)
-  longest_without [] i e = rw drop-nil
-  longest_without (b ∷ s) zero e = rw (ne_eqb b 61 e)
-  longest_without (b ∷ s) (suc i) e = longest_without s i e
-
--- a byte that begins no token
-pub no_token : (b : ℕ) (s : List ℕ) → is_letter b ≡ false → is_digit b ≡ false
-    → (b ≡ code "-" → ⊥) → (b ≡ code "'" → ⊥) → (b ≡ code "(" → ⊥) → (b ≡ code ")" → ⊥)
-    → (b ≡ code "<" → ⊥) → (b ≡ code ">" → ⊥) → (b ≡ code "=" → ⊥) → (b ≡ code "!" → ⊥) → taken unreadable s ≡ token (b ∷ s)
-no_token b s letter digit minus quote opens closes less greater equals exclaims = search picks depth 14

@@ -6,7 +6,7 @@ use Rattle.values.specs.Order.{compare_bytes, starts_with}
 use Rattle.values.specs.laws.OrderLaws.{take_mono}
 use Rattle.values.specs.laws.PrefixLaws.{starts_append}
 use Rattle.values.specs.laws.TestLaws.{and_both, both_and, clash}
-use Rattle.values.specs.declared.order.Ordering.TheVariants.{Less}
+use Rattle.std.specs.declared.cmp.Ordering.TheVariants.{Less}
 use Rattle.transform.specs.Truncate.{first_bytes}
 use Rattle.transform.specs.laws.Cutting.{Cutting}
 

@@ -1,7 +1,7 @@
 -- What cutting byte strings down to a width keeps, whatever it counts: a beginning, the order, and what begins with what. Assumes nothing.
 use Rattle.std.specs.Prelude.{ℕ, ◌≤◌, true, List, ◌≡◌}
 use Rattle.values.specs.Order.{compare_bytes, starts_with}
-use Rattle.values.specs.declared.order.Ordering.TheVariants.{Less}
+use Rattle.std.specs.declared.cmp.Ordering.TheVariants.{Less}
 
 -- `cut` leaves of a string at most w of what `count` counts; `Fine` says of which strings the order and the beginnings are kept
 pub record Cutting (Fine : List ℕ → Type 0) (count : List ℕ → ℕ) (w : ℕ) (cut : List ℕ → List ℕ) : Type 0 where

@@ -4,7 +4,7 @@ use Rattle.std.proofs.Common.{ap, ⊎_elim, div-le_self, div-one, div-lt_iff_lt-
 use native.Mathlib.Omega.{arith}
 use Rattle.std.proofs.Math.Nat.{div-add-mod', mod-lt}
 use Rattle.std.specs.Int.Signed.{mag}
-use Rattle.std.specs.Int.{Width, w32, w64}
+use Rattle.std.specs.Int.{Width, w32, w64, int_div_euclid, int_rem_euclid}
 use mir.Val.{SFits, hbits}
 use Rattle.values.specs.laws.IntLaws.{up, dn, ints, plus, times, times_le, times_lt, le_or_lt}
 use Rattle.transform.specs.Floor.{floor_div, floor_mod}
@@ -65,6 +65,17 @@ pub floor_one : (v : ℤ) → floor_div v 1 ≡ v
 unfolding floor_div
 floor_one (pos a) = ap pos (div-one a)
 floor_one (negsuc a) = ap negsuc (div-one a)
+
+-- std's names for the quotient and the remainder
+pub euclid_quotient : (v : ℤ) (d : ℕ) → int_div_euclid v (pos d) ≡ floor_div v d
+unfolding floor_div
+euclid_quotient (pos a) d = refl
+euclid_quotient (negsuc a) d = refl
+
+pub euclid_rest : (v : ℤ) (d : ℕ) → int_rem_euclid v (pos d) ≡ pos (floor_mod v d)
+unfolding floor_mod
+euclid_rest (pos a) d = refl
+euclid_rest (negsuc a) d = ap pos (omega arith)
 
 -- ---- ranges: the range of a number is one bound, on its `mag`
 

@@ -11,8 +11,8 @@ use Rattle.values.specs.laws.CodePointLaws.{never_empty, beginning_equal}
 use Rattle.values.specs.laws.Utf8Laws.{concat_code_points, code_points_append, utf8_fresh, utf8_after, utf8_take}
 use Rattle.values.specs.laws.OrderLaws.{common_beginning, none_below_empty}
 use Rattle.values.specs.laws.PrefixLaws.{starts_append, rest_of}
-use Rattle.values.specs.declared.order.Ordering.{Ordering}
-use Rattle.values.specs.declared.order.Ordering.TheVariants.{Less, Greater}
+use Rattle.std.specs.declared.cmp.Ordering.{Ordering}
+use Rattle.std.specs.declared.cmp.Ordering.TheVariants.{Less, Greater}
 use Rattle.transform.specs.Truncate.{first_code_points}
 use Rattle.transform.specs.laws.Cutting.{Cutting}
 

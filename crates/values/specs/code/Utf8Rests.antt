@@ -1,7 +1,6 @@
--- What a reader of UTF-8 awaits that goes byte by byte. Assumes nothing.
-use Rattle.std.specs.Prelude.{ℕ, zero, suc, Bool, false, ◌&&◌, List, [], ◌∷◌, replicate}
-use Rattle.values.specs.Utf8.{Range, ◌to◌, within, tail, utf8}
-use Rattle.values.specs.declared.utf8.Rest.{Rest}
+-- What a reader of UTF-8 awaits within a code point. Assumes nothing.
+use Rattle.std.specs.Prelude.{ℕ, ◌==◌, Bool, false, cond, ◌&&◌, Option, None, Some, List, [], ◌∷◌}
+use Rattle.values.specs.Utf8.{Range, within, utf8}
 
 -- a byte in each of the ranges, and then UTF-8
 abbrev pub follows : List Range → List ℕ → Bool
@@ -9,10 +8,14 @@ follows [] s = utf8 s
 follows (r ∷ rs) [] = false
 follows (r ∷ rs) (b ∷ bs) = within b r && follows rs bs
 
-abbrev pub ranges : ℕ → Range → List Range
-ranges zero r = []
-ranges (suc n) r = r ∷ replicate n tail
+-- the same of what is left after a byte that was awaited; nothing is left where it did not come
+abbrev pub follows_on : List Range → Option (List ℕ) → Bool
+follows_on rs None = false
+follows_on rs (Some s) = follows rs s
 
--- what a reader awaits that has read a part of a code point
-abbrev pub awaited : Rest → List ℕ → Bool
-awaited q s = follows (ranges q.0 (q.1 to q.2)) s
+-- the bytes between which the second of a code point stands, by its first
+abbrev pub lowest_second : ℕ → ℕ
+lowest_second b = cond (b == 0xE0) 0xA0 (cond (b == 0xF0) 0x90 0x80)
+
+abbrev pub highest_second : ℕ → ℕ
+highest_second b = cond (b == 0xED) 0x9F (cond (b == 0xF4) 0x8F 0xBF)

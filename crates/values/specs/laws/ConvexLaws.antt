@@ -3,7 +3,7 @@ use Rattle.std.specs.Prelude.{◌≡◌, ℕ, true, List, [], length, take, drop
 use Rattle.std.proofs.Common.{append-nil, sym, ap₂, ◌∙◌, take-append-drop}
 use Rattle.std.proofs.Math.Seq.{take-length, take-append_seam}
 use Rattle.values.specs.Order.{compare_bytes, starts_with}
-use Rattle.values.specs.declared.order.Ordering.TheVariants.{Less}
+use Rattle.std.specs.declared.cmp.Ordering.TheVariants.{Less}
 use Rattle.values.specs.laws.OrderLaws.{connected, bytes_order, common_beginning, none_below_empty, take_mono}
 use Rattle.values.specs.laws.PrefixLaws.{starts_append, rest_of}
 

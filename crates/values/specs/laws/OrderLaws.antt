@@ -6,8 +6,8 @@ use Rattle.values.specs.laws.IntLaws.{ints, lt_true, lt_false, lt_z_yes, lt_z_no
 use Rattle.values.specs.laws.TestLaws.{clash, refuted}
 use Rattle.values.specs.code.Places.{flip}
 use Rattle.values.specs.Order.{compare_numbers, compare_bytes, is_less, is_equal}
-use Rattle.values.specs.declared.order.Ordering.{Ordering}
-use Rattle.values.specs.declared.order.Ordering.TheVariants.{Less, Equal, Greater}
+use Rattle.std.specs.declared.cmp.Ordering.{Ordering}
+use Rattle.std.specs.declared.cmp.Ordering.TheVariants.{Less, Equal, Greater}
 
 -- ---- answers of a comparison
 pub flip_flip : (o : Ordering) → flip (flip o) ≡ o

@@ -1,8 +1,11 @@
 -- Laws of byte strings as code points: how `code_points` cuts, that `utf8` and `Octets` agree, and UTF-8 put together and taken apart.
 -- Assumes nothing.
-use Rattle.std.specs.Prelude.{◌≡◌, ℕ, zero, suc, ◌≤◌, Bool, true, false, cond, List, [], ◌∷◌, ◌++◌, length, take, refl}
+use Rattle.std.specs.Prelude.{◌≡◌, ℕ, zero, suc, ◌+◌, ◌<◌, ◌≤◌, Bool, true, false, cond, not, List, [], ◌∷◌, ◌++◌, length, take, drop, count_by, slice_range, refl}
 use Rattle.std.proofs.Common.{arith, append_assoc, sym, ap, ◌∙◌}
 use Rattle.std.proofs.lemmas.Bool.{false≢true}
+use Rattle.std.proofs.lemmas.List.Recursion.{is_count_by}
+use Rattle.std.proofs.lemmas.List.Sums.{count_by-le-length}
+use Rattle.std.proofs.lemmas.Slice.{between_to_end}
 use Rattle.values.specs.SomeEvery.{every}
 use Rattle.values.specs.Utf8.{continues, is_code_point, goes_on, before, code_points, all_code_points, utf8, concat, Octets}
 use Rattle.values.specs.laws.TestLaws.{and_both, both_and, same_test, clash}
@@ -54,32 +57,33 @@ parts_some (b ∷ bs) = some_before b (goes_on bs) (code_points bs) (parts_some 
 
 -- ---- how many parts: the first byte begins one, and each later byte that goes on with none
 
-abbrev pub starts : List ℕ → ℕ
+abbrev starts : List ℕ → ℕ
 starts [] = 0
-starts (b ∷ bs) = cond (continues b) (starts bs) (suc (starts bs))
+starts (b ∷ bs) = cond (not (continues b)) (1 + starts bs) (starts bs)
 
-pub count_parts : (b : ℕ) (bs : List ℕ) → length (code_points (b ∷ bs)) ≡ suc (starts bs)
+count_parts : (b : ℕ) (bs : List ℕ) → length (code_points (b ∷ bs)) ≡ 1 + starts bs
 unfolding code_points
 count_parts b [] = refl
 count_parts b (d ∷ ds) = go (continues d) (code_points (d ∷ ds)) (count_parts d ds)
   where
-    go : (k : Bool) (cs : List (List ℕ)) → length cs ≡ suc (starts ds) → length (before b k cs) ≡ suc (cond k (starts ds) (suc (starts ds)))
+    go : (k : Bool) (cs : List (List ℕ)) → length cs ≡ 1 + starts ds → length (before b k cs) ≡ 1 + cond (not k) (1 + starts ds) (starts ds)
     go true [] e = absurd (omega arith)
     go true (c ∷ cs) e = e
-    go false cs e = ap suc e
+    go false cs e = omega arith
 
-pub starts_most : (s : List ℕ) → starts s ≤ length s
-starts_most [] = omega arith
-starts_most (b ∷ bs) = go (continues b) (starts_most bs)
-  where
-    go : (k : Bool) → starts bs ≤ length bs → cond k (starts bs) (suc (starts bs)) ≤ suc (length bs)
-    go true h = omega arith
-    go false h = omega arith
+parts_counted : (s : List ℕ) → 0 < length s → length (code_points s) ≡ 1 + count_by (λ b. not (continues b)) (drop 1 s)
+parts_counted [] h = absurd (omega arith)
+parts_counted (b ∷ bs) h = count_parts b bs ∙ ap (λ n. 1 + n) (is_count_by starts (λ b. not (continues b)) refl (λ x xs. refl) bs)
 
 pub parts_most : (s : List ℕ) → length (code_points s) ≤ length s
 unfolding code_points
 parts_most [] = omega arith
-parts_most (b ∷ bs) = omega (arith, count_parts b bs, starts_most bs)
+parts_most (b ∷ bs) = omega (arith, parts_counted (b ∷ bs) (omega arith), count_by-le-length (λ b. not (continues b)) bs)
+
+pub parts_later : (s : List ℕ) → 0 < length s → length (code_points s) ≡ 1 + count_by (λ b. not (continues b)) (slice_range s 1 (length s))
+parts_later s h = rw (between_to_end s 1 (length s) (omega arith)) (parts_counted s h)
+
+pub ruleset part_counts = (parts_later, parts_most)
 
 -- ---- before a byte that goes on with no code point
 

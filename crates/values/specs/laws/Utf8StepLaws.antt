@@ -1,16 +1,15 @@
 -- UTF-8 read byte by byte, and that `utf8` holds of what such a reader takes. Assumes nothing.
-use Rattle.std.specs.Prelude.{◌≡◌, ℕ, zero, suc, ◌-◌, ◌<◌, ◌≤◌, Bool, true, false, cond, ◌&&◌, ◌||◌, List, [], ◌∷◌, ◌++◌, ◌==◌, ◌≢◌, nat_le, nat_lt}
-use Rattle.std.proofs.Common.{arith, sym, ap, ◌∙◌, sub-one}
+use Rattle.std.specs.Prelude.{◌≡◌, ℕ, ◌<◌, ◌≤◌, Bool, true, false, cond, ◌&&◌, ◌||◌, List, [], ◌∷◌, ◌++◌, length, nat_le, nat_lt}
+use Rattle.std.proofs.Common.{arith, sym, ap, ◌∙◌}
 use Rattle.std.proofs.lemmas.Bool.{false≢true}
 use Rattle.std.proofs.Math.Bool.{and-false, or-false, or-true}
 use Rattle.std.proofs.Math.Path.{refl}
-use borrow.Author.Tests.{leb-true, ltb-true, ltb-false, le-leb, lt-leb, ne_eqb}
+use borrow.Author.Tests.{leb-true, ltb-true, le-leb, lt-leb}
 use Rattle.values.specs.SomeEvery.{every}
 use Rattle.values.specs.Utf8.{Range, ◌to◌, within, tail, forms, matches, any_form, is_code_point, code_points, all_code_points, utf8, concat}
-use Rattle.values.specs.code.Utf8Rests.{follows, ranges, awaited}
+use Rattle.values.specs.code.Utf8Rests.{follows, lowest_second, highest_second}
 use Rattle.values.specs.laws.TestLaws.{and_both, both_and, same_test}
 use Rattle.values.specs.laws.Utf8Laws.{first_part, concat_code_points, utf8_concat, utf8_code_point}
-use Rattle.values.specs.declared.utf8.Rest.{Rest}
 
 -- ---- what is left of each form that a byte begins
 
@@ -141,40 +140,64 @@ module _ (lo hi b : ℕ) (from : lo ≤ b) (upto : b ≤ hi) where
   pub first_none : every (clear lo hi) forms ≡ true → after lo forms ≡ [] → (s : List ℕ) → utf8 (b ∷ s) ≡ false
   first_none p e s = utf8_first b s ∙ rw (after_alike forms p, e)
 
--- ---- the bytes after the first: n of them, the next from lo to hi
+-- first bytes by how many bytes their forms have, and those with which no form begins
+module _ (b : ℕ) (s : List ℕ) where
+  abbrev Leads : List Range → Type 0
+  Leads rs = utf8 (b ∷ s) ≡ follows (lowest_second b to highest_second b ∷ rs) s
 
-module _ (lo hi : ℕ) where
-  pub next_in_lem : (n b : ℕ) → (n ≢ 0) → lo ≤ b → b ≤ hi → (s : List ℕ) → follows (ranges n (lo to hi)) (b ∷ s) ≡ follows (ranges (n - 1) tail) s
-  next_in_lem zero b z h k s = absurd (z refl)
-  next_in_lem (suc zero) b z h k s = rw (le-leb lo b h, le-leb b hi k)
-  next_in_lem (suc (suc n)) b z h k s = rw (le-leb lo b h, le-leb b hi k, sub-one (suc (suc n)))
+  pub one_byte : b ≤ 0x7F → utf8 (b ∷ s) ≡ utf8 s
+  unfolding after
+  one_byte h = first_follows 0x00 0x7F b (omega arith) h [] refl refl s
 
-  pub next_below : (n b : ℕ) → (n ≢ 0) → b < lo → (s : List ℕ) → follows (ranges n (lo to hi)) (b ∷ s) ≡ false
-  next_below zero b z h s = absurd (z refl)
-  next_below (suc n) b z h s = rw (lt-leb lo b h)
+  pub two_bytes : 0xC2 ≤ b → b ≤ 0xDF → Leads []
+  unfolding after
+  two_bytes h k = let e = first_follows 0xC2 0xDF b h k _ refl refl s in grind arith
 
-  pub next_above : (n b : ℕ) → (n ≢ 0) → hi < b → (s : List ℕ) → follows (ranges n (lo to hi)) (b ∷ s) ≡ false
-  next_above zero b z h s = absurd (z refl)
-  next_above (suc n) b z h s = rw (lt-leb b hi h, and-false (nat_le lo b))
+  e0 : 0xE0 ≤ b → b ≤ 0xE0 → Leads (tail ∷ [])
+  unfolding after
+  e0 h k = let e = first_follows 0xE0 0xE0 b h k _ refl refl s in grind arith
 
-  -- no byte is in an empty range
-  next_none : (n : ℕ) → (n ≢ 0) → hi < lo → (s : List ℕ) → follows (ranges n (lo to hi)) s ≡ false
-  next_none zero z h s = absurd (z refl)
-  next_none (suc n) z h [] = refl
-  next_none (suc n) z h (b ∷ s) = go (nat_lt b lo) refl
-    where
-      go : (t : Bool) → nat_lt b lo ≡ t → follows (ranges (suc n) (lo to hi)) (b ∷ s) ≡ false
-      go true e = next_below (suc n) b z (ltb-true b lo e) s
-      go false e = next_above (suc n) b z (omega (arith, ltb-false b lo e)) s
+  e1 : 0xE1 ≤ b → b ≤ 0xEC → Leads (tail ∷ [])
+  unfolding after
+  e1 h k = let e = first_follows 0xE1 0xEC b h k _ refl refl s in grind arith
 
-  next_end : (n : ℕ) → (n == 0) ≡ follows (ranges n (lo to hi)) []
-  unfolding utf8 code_points
-  next_end zero = refl
-  next_end (suc n) = ne_eqb (suc n) 0 (λ e. omega arith)
+  ed : 0xED ≤ b → b ≤ 0xED → Leads (tail ∷ [])
+  unfolding after
+  ed h k = let e = first_follows 0xED 0xED b h k _ refl refl s in grind arith
 
-pub await_none : (q : Rest) → (q.0 ≢ 0) → q.2 < q.1 → (s : List ℕ) → awaited q s ≡ false
-await_none q z h s = next_none q.1 q.2 q.0 z h s
+  ee : 0xEE ≤ b → b ≤ 0xEF → Leads (tail ∷ [])
+  unfolding after
+  ee h k = let e = first_follows 0xEE 0xEF b h k _ refl refl s in grind arith
 
--- a string may end where nothing is awaited
-pub await_end : (q : Rest) → (q.0 == 0) ≡ awaited q []
-await_end q = next_end q.1 q.2 q.0
+  f0 : 0xF0 ≤ b → b ≤ 0xF0 → Leads (tail ∷ tail ∷ [])
+  unfolding after
+  f0 h k = let e = first_follows 0xF0 0xF0 b h k _ refl refl s in grind arith
+
+  f1 : 0xF1 ≤ b → b ≤ 0xF3 → Leads (tail ∷ tail ∷ [])
+  unfolding after
+  f1 h k = let e = first_follows 0xF1 0xF3 b h k _ refl refl s in grind arith
+
+  f4 : 0xF4 ≤ b → b ≤ 0xF4 → Leads (tail ∷ tail ∷ [])
+  unfolding after
+  f4 h k = let e = first_follows 0xF4 0xF4 b h k _ refl refl s in grind arith
+
+  pub three_bytes : 0xE0 ≤ b → b ≤ 0xEF → Leads (tail ∷ [])
+  three_bytes h k = grind (arith, e0, e1, ed, ee)
+
+  pub four_bytes : 0xF0 ≤ b → b ≤ 0xF4 → Leads (tail ∷ tail ∷ [])
+  four_bytes h k = grind (arith, f0, f1, f4)
+
+  pub no_first : 0x80 ≤ b → b ≤ 0xC1 → utf8 (b ∷ s) ≡ false
+  unfolding after
+  no_first h k = first_none 0x80 0xC1 b h k refl refl s
+
+  pub past_first : 0xF5 ≤ b → b ≤ 0xFF → utf8 (b ∷ s) ≡ false
+  unfolding after
+  past_first h k = first_none 0xF5 0xFF b h k refl refl s
+
+pub ruleset first_bytes = (one_byte, two_bytes, three_bytes, four_bytes, no_first, past_first)
+
+pub nothing_left : (s : List ℕ) → length s < 1 → utf8 s ≡ true
+unfolding utf8 code_points
+nothing_left [] h = refl
+nothing_left (b ∷ s) h = absurd (omega arith)

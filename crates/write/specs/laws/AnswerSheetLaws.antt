@@ -1,8 +1,8 @@
 -- Laws of writing an answer sheet: its head, then record after record, and the loop over the literals. Assumes nothing.
-use Rattle.std.specs.Prelude.{ℕ, zero, suc, ◌+◌, ◌*◌, ◌≤◌, ◌<◌, Bool, cond, List, [], ◌∷◌, ◌++◌, map, ◌≡◌, refl, ltb, length, get_or, take, drop}
+use Rattle.std.specs.Prelude.{ℕ, zero, suc, ◌+◌, ◌*◌, ◌≤◌, ◌<◌, Bool, cond, List, [], ◌∷◌, ◌++◌, map, ◌≡◌, refl, ltb, length, get_or, drop}
 use Rattle.std.proofs.Math.Decide.{dec_lt}
-use Rattle.std.proofs.Common.{add-one, arith, append-nil, sym, ap, ◌∙◌, length-take, lt-ltb, le-ltb}
-use Rattle.std.proofs.Math.Seq.{slice, slice-cons, slice_empty}
+use Rattle.std.proofs.Common.{add-one, arith, sym, ap, ◌∙◌, drop-cons, lt-ltb, le-ltb}
+use Rattle.std.proofs.Math.ListN.{drop_of_length-le}
 use Rattle.values.specs.code.Places.{AllOf}
 use Rattle.values.specs.Types.{content_size, type_number}
 use Rattle.values.specs.laws.WordLaws.{over_nil}
@@ -10,13 +10,12 @@ use Rattle.values.specs.Words.{over}
 use Rattle.values.specs.declared.datatypes.PrimitiveType.{PrimitiveType}
 use Rattle.expr.specs.Operators.{operator_number}
 use Rattle.expr.specs.declared.operator.PredicateOperator.{PredicateOperator}
-use Rattle.sheet.specs.code.ReadAnswers.{part_at}
-use Rattle.sheet.specs.Records.{header_size, record_size, record_at}
+use Rattle.sheet.specs.Records.{record_size}
 use Rattle.write.specs.laws.RoundTripLaws.{length_literal}
 use Rattle.write.specs.laws.WriteLaws.{record_then}
 use Rattle.write.specs.Written.{head_record, literal_record, next_to, literal_records, answer_bytes}
 
--- ---- a head and then literals, a literal and then others, and the last
+-- ---- a head and then literals, and a literal and then others
 
 pub head_then : (operator : PredicateOperator) (to : PrimitiveType) (contents : List (List ℕ)) {next : ℕ} (s : List ℕ) {t u : List ℕ}
     → record_size ≤ length s → next ≡ next_to 1 contents
@@ -37,41 +36,33 @@ literal_then k bs rest s small room is e d =
     rw (d, e, is) (sym (record_then k r s (length_literal (next_to (k + 1) rest) bs small) room (literal_records (k + 1) rest)))
     ∙ ap (λ (m : ℕ). over (record_size * k) (literal_record (next_to m rest) bs ++ literal_records m rest) s) (add-one k)
 
-pub last_literal : (k : ℕ) (bs s : List ℕ) {t : List ℕ}
-    → t ≡ over (record_size * k) (literal_record 0 bs) s → t ≡ over (record_size * k) (literal_records k (bs ∷ [])) s
-last_literal k bs s e = e ∙ ap (λ (r : List ℕ). over (record_size * k) r s) (sym (append-nil (literal_record 0 bs)))
+-- ---- the literals that the elements of a list are, of which those before index i are written
 
--- ---- the literals that the first n elements of a list are, of which those before index i are written
-
-module _ {A : Type 0} (f : A → List ℕ) (z : A) (xs : List A) (n : ℕ) (there : n ≤ length xs) where
+module _ {A : Type 0} (f : A → List ℕ) (z : A) (xs : List A) where
   -- the record after record k is there where literals are left
-  pub next_left : (k : ℕ) → k ≤ n → cond (ltb k n) (k + 1) 0 ≡ next_to (k + 1) (map f (slice k n xs))
-  next_left k h = go (dec_lt k n)
+  pub next_left : (k : ℕ) → k ≤ length xs → cond (ltb k (length xs)) (k + 1) 0 ≡ next_to (k + 1) (map f (drop k xs))
+  next_left k h = go (dec_lt k (length xs))
     where
-      go : Dec (k < n) → cond (ltb k n) (k + 1) 0 ≡ next_to (k + 1) (map f (slice k n xs))
-      go (yes less) = rw (lt-ltb k n less, slice-cons k n xs z less there)
-      go (no more) = let e : k ≡ n = omega arith in rw (e, slice_empty n xs) (ap (λ (b : Bool). cond b (n + 1) 0) (le-ltb n n (omega arith)))
+      go : Dec (k < length xs) → cond (ltb k (length xs)) (k + 1) 0 ≡ next_to (k + 1) (map f (drop k xs))
+      go (yes less) = rw (lt-ltb k (length xs) less, drop-cons xs k z less)
+      go (no more) = rw (drop_of_length-le xs {i = k} (omega arith)) (ap (λ (b : Bool). cond b (k + 1) 0) (le-ltb k (length xs) (omega arith)))
 
-  pub turn : (i : ℕ) {next : ℕ} (s : List ℕ) {t : List ℕ} → i < n → record_size * (n + 1) ≤ length s → length (f (get_or xs i z)) ≤ content_size
-      → next ≡ cond (ltb (i + 1) n) (i + 1 + 1) 0
+  pub turn : (i : ℕ) {next : ℕ} (s : List ℕ) {t : List ℕ} → i < length xs → record_size * (length xs + 1) ≤ length s
+      → length (f (get_or xs i z)) ≤ content_size → next ≡ cond (ltb (i + 1) (length xs)) (i + 1 + 1) 0
       → t ≡ over (record_size * (i + 1)) (literal_record next (f (get_or xs i z))) s
-      → over (record_size * (i + 1)) (literal_records (i + 1) (map f (slice i n xs))) s
-      ≡ over (record_size * (i + 1 + 1)) (literal_records (i + 1 + 1) (map f (slice (i + 1) n xs))) t
+      → over (record_size * (i + 1)) (literal_records (i + 1) (map f (drop i xs))) s
+      ≡ over (record_size * (i + 1 + 1)) (literal_records (i + 1 + 1) (map f (drop (i + 1) xs))) t
   turn i s less room small is e =
-      let first : slice i n xs ≡ get_or xs i z ∷ slice (i + 1) n xs = slice-cons i n xs z less there ∙ rw add-one in
-      let rest = map f (slice (i + 1) n xs) in
-      rw first (sym (literal_then (i + 1) (f (get_or xs i z)) rest s small (omega arith) (is ∙ next_left (i + 1) (omega arith)) e refl))
+      let x = get_or xs i z in
+      let first : drop i xs ≡ x ∷ drop (i + 1) xs = rw (add-one, drop-cons xs i z less) in
+      let rest = map f (drop (i + 1) xs) in
+      rw first (sym (literal_then (i + 1) (f x) rest s small (omega arith) (is ∙ next_left (i + 1) (omega arith)) e refl))
 
-  pub no_more : (i : ℕ) (s : List ℕ) → i ≤ n → n ≤ i → over (record_size * (i + 1)) (literal_records (i + 1) (map f (slice i n xs))) s ≡ s
-  no_more i s h k = let e : i ≡ n = omega arith in rw (e, slice_empty n xs) (over_nil (record_size * (n + 1)) s)
+  pub no_more : (i : ℕ) (s : List ℕ) → length xs ≤ i → over (record_size * (i + 1)) (literal_records (i + 1) (map f (drop i xs))) s ≡ s
+  no_more i s h = rw (drop_of_length-le xs h) (over_nil (record_size * (i + 1)) s)
 
--- what holds of the first n elements holds of one of them
-pub all_at : {A : Type 0} (g : A → Type 0) (z : A) (xs : List A) (n i : ℕ) → AllOf g (take n xs) → i < n → n ≤ length xs → g (get_or xs i z)
-all_at g z xs zero i h less there = absurd (omega arith)
-all_at g z [] (suc n) i h less there = absurd (omega arith)
-all_at g z (x ∷ xs) (suc n) zero h less there = h.0
-all_at g z (x ∷ xs) (suc n) (suc i) h less there = all_at g z xs n i h.1 (omega arith) (omega arith)
-
--- a beginning of a content is small enough for a record
-pub length_part : (s sizes : List ℕ) (k : ℕ) → get_or sizes k 0 ≤ content_size → length (part_at s sizes k) ≤ content_size
-length_part s sizes k short = omega (arith, length-take (get_or sizes k 0) (drop header_size (record_at s k)))
+-- what holds of all elements holds of one of them
+pub all_at : {A : Type 0} (g : A → Type 0) (z : A) (xs : List A) (i : ℕ) → AllOf g xs → i < length xs → g (get_or xs i z)
+all_at g z [] i h less = absurd (omega arith)
+all_at g z (x ∷ xs) zero h less = h.0
+all_at g z (x ∷ xs) (suc i) h less = all_at g z xs i h.1 (omega arith)

@@ -1,8 +1,8 @@
 -- Records: a literal or a value that is written is read. Assumes nothing.
-use Rattle.std.specs.Prelude.{ℕ, zero, suc, ◌+◌, ◌-◌, ◌≤◌, ◌<◌, Bool, true, false, cond, List, ◌≡◌, refl, eqb, length, drop, replicate}
+use Rattle.std.specs.Prelude.{ℕ, zero, suc, ◌+◌, ◌-◌, ◌≤◌, ◌<◌, Bool, true, false, cond, List, ◌≡◌, refl, eqb, length, drop, replicate, Ok}
 use Rattle.std.proofs.Common.{arith, ap, ◌∙◌, length-append, take_at, drop_at, take_all, eq-eqb, ne_eqb}
 use Rattle.std.proofs.lemmas.List.{length-replicate}
-use Rattle.values.specs.Outcomes.{Res, ok, need, ◌>>◌, Row, missing, present}
+use Rattle.values.specs.Outcomes.{Res, need, ◌>>◌, Row, missing, present}
 use Rattle.values.specs.laws.OutcomeLaws.{passing, going}
 use Rattle.values.specs.Types.{Layout, content_size, layout, fits}
 use Rattle.values.specs.Words.{le_number, field, zero_at}
@@ -54,10 +54,10 @@ content_at n l r = do
   need (eqb (length r) record_size) Malformed
   need (fits l n) Malformed
   need (zero_at (header_size + n) (content_size - n) r) Malformed
-  ok (field header_size n r)
+  Ok (field header_size n r)
 
 pub content_back : (ty : PrimitiveType) (n : ℕ) (bs : List ℕ) → fits (layout ty) (length bs) ≡ true
-    → content (layout ty) (literal_record n bs) ≡ ok bs
+    → content (layout ty) (literal_record n bs) ≡ Ok bs
 unfolding content
 content_back ty n bs h =
     let room = fits_room ty (length bs) h in
@@ -65,9 +65,9 @@ content_back ty n bs h =
     ∙ passing Malformed _ (eq-eqb _ record_size (length_literal n bs room))
     ∙ passing Malformed _ h
     ∙ passing Malformed _ (zeros_back n bs room)
-    ∙ ap ok (field_back n bs room)
+    ∙ ap Ok (field_back n bs room)
 
-pub value_back : (ty : PrimitiveType) (row : Row (List ℕ)) → FitsRow ty row → value (layout ty) (value_record row) ≡ ok row
+pub value_back : (ty : PrimitiveType) (row : Row (List ℕ)) → FitsRow ty row → value (layout ty) (value_record row) ≡ Ok row
 unfolding value
 value_back ty missing h = refl
 value_back ty (present bs) h =
@@ -75,4 +75,4 @@ value_back ty (present bs) h =
     let room = fits_room ty (length bs) h in
     let other : eqb (length_in r) missing_mark ≡ false = ne_eqb (length_in r) missing_mark (λ e. omega (arith, length_back 0 bs room)) in
     ap (λ (b : Bool). cond b (missing_value r) (present_value (layout ty) r)) other
-    ∙ going (λ (b : List ℕ). ok (present b)) (content_back ty 0 bs h)
+    ∙ going (λ (b : List ℕ). Ok (present b)) (content_back ty 0 bs h)

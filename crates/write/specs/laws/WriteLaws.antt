@@ -1,6 +1,7 @@
 -- Laws of writing: parts written one after another, records in a buffer, and that a write changes nothing else. Assumes nothing.
 use Rattle.std.specs.Prelude.{ℕ, ◌+◌, ◌-◌, ◌*◌, ◌≤◌, ◌<◌, List, ◌++◌, ◌≡◌, refl, ℤ, length, take, drop, replicate}
-use Rattle.std.proofs.Common.{zero-add, arith, sym, ap, ◌∙◌, length-append, drop_at, drop-drop, length-take-le}
+use Rattle.std.proofs.Common.{zero-add, append_assoc, arith, sym, ap, ◌∙◌, length-append, take_at, drop_at, drop-drop, length-take-le}
+use Rattle.std.proofs.Math.ListN.{length-replicate, replicate-append-replicate}
 use Rattle.std.proofs.Math.Decide.{dec_lt}
 use Rattle.std.proofs.Math.Seq.{drop-append-add, take-append_seam}
 use Rattle.values.specs.Outcomes.{missing}
@@ -24,14 +25,37 @@ three_writes a {b} {c} xs ys zs s {t} {u} {v} e f h p q r =
     let kept : length t ≡ length s = ap length p ∙ length_over a xs s (omega arith) in
     two_writes a xs (ys ++ zs) s e (omega arith) p (two_writes b ys zs t f (omega arith) q r)
 
--- a literal: what stands before its content, the content, and zeros
+-- bytes over the first of what is written
+over_first : (a : ℕ) (bs xs ys s : List ℕ) → length bs ≡ length xs → a ≤ length s → over a bs (over a (xs ++ ys) s) ≡ over a (bs ++ ys) s
+over_first a bs xs ys s same room =
+    let t = take a s in
+    let rest = drop (a + length (xs ++ ys)) s in
+    let front : length t ≡ a = length-take-le a s room in
+    let behind : length (t ++ xs) ≡ a + length bs = omega (arith, length-append t xs, front) in
+    let before : take a (t ++ (xs ++ ys) ++ rest) ≡ t = rw append_assoc (take_at t ((xs ++ ys) ++ rest) a front) in
+    let after : drop (a + length bs) (t ++ (xs ++ ys) ++ rest) ≡ ys ++ rest
+    = rw (← append_assoc t xs ys, append_assoc (t ++ xs) ys rest) (drop_at (t ++ xs) (ys ++ rest) (a + length bs) behind) in
+    let size : length (xs ++ ys) ≡ length (bs ++ ys) = omega (arith, length-append xs ys, length-append bs ys) in
+    rw (before, after, size) (simp append_assoc)
+
+-- over zeros
+zeros_over : (a n : ℕ) (bs s : List ℕ) → length bs ≤ n → a ≤ length s
+    → over a bs (over a (replicate n 0) s) ≡ over a (bs ++ replicate (n - length bs) 0) s
+zeros_over a n bs s fits room =
+    let split : replicate (length bs) 0 ++ replicate (n - length bs) 0 ≡ replicate {A = ℕ} n 0
+    = replicate-append-replicate (length bs) (n - length bs) 0 ∙ ap (λ (m : ℕ). replicate m 0) (omega arith) in
+    rw (← split) (over_first a bs (replicate (length bs) 0) (replicate (n - length bs) 0) s (sym (length-replicate (length bs) 0)) room)
+
+-- a literal: what stands before its content, zeros, and the content over them
 pub literal_writes : (at next : ℕ) (bs s : List ℕ) {t u v : List ℕ} → length bs ≤ content_size → at + record_size ≤ length s
     → t ≡ over at (le_bytes 2 next ++ le_bytes 2 (length bs)) s
-    → u ≡ over (at + header_size) bs t
-    → v ≡ over (at + header_size + length bs) (replicate (content_size - length bs) 0) u
+    → u ≡ over (at + header_size) (replicate content_size 0) t
+    → v ≡ over (at + header_size) bs u
     → v ≡ over at (literal_record next bs) s
-literal_writes at next bs s small fits =
-    three_writes at (le_bytes 2 next ++ le_bytes 2 (length bs)) bs (replicate (content_size - length bs) 0) s refl refl (omega arith)
+literal_writes at next bs s {t} {u} {v} small fits p q r =
+    let kept : length t ≡ length s = ap length p ∙ length_over at (le_bytes 2 next ++ le_bytes 2 (length bs)) s (omega arith) in
+    two_writes at (le_bytes 2 next ++ le_bytes 2 (length bs)) (bs ++ replicate (content_size - length bs) 0) s refl (omega arith) p
+    (r ∙ rw q (zeros_over (at + header_size) content_size bs t small (omega arith)))
 
 -- ---- records
 

@@ -1,8 +1,8 @@
 -- Answers: an answer sheet that is written is read, and how long it is. Assumes nothing.
-use Rattle.std.specs.Prelude.{ℕ, suc, ◌+◌, ◌*◌, ◌%◌, ◌^◌, ◌≤◌, ◌<◌, Bool, true, false, cond, ◌&&◌, List, [], ◌∷◌, ◌≡◌, refl, ltb, eqb, length, drop}
+use Rattle.std.specs.Prelude.{ℕ, suc, ◌+◌, ◌*◌, ◌%◌, ◌^◌, ◌≤◌, ◌<◌, Bool, true, false, cond, ◌&&◌, List, [], ◌∷◌, ◌≡◌, refl, ltb, eqb, length, drop, Ok}
 use Rattle.std.proofs.Common.{arith, ◌∙◌, length-append, take_at, drop_at, drop-drop, ltb-true, eqb-true, lt-ltb, le-leb, eq-eqb, ne_eqb}
 use Rattle.values.specs.Numbered.{Numbered, ◌is◌, find}
-use Rattle.values.specs.Outcomes.{ok, each}
+use Rattle.values.specs.Outcomes.{each}
 use Rattle.values.specs.laws.OutcomeLaws.{ok_not_err, passing, going, each_put}
 use Rattle.values.specs.laws.TestLaws.{and_both}
 use Rattle.values.specs.Types.{types, type_number, layout}
@@ -29,17 +29,17 @@ module _ {X : Type 0} (w : ℕ) where
   small [] = true
   small (k is x ∷ xs) = ltb k (256 ^ w) && small xs
 
-  found_small : (xs : List (Numbered X)) (n : ℕ) {t : X} → small xs ≡ true → find xs n ≡ ok t → n < 256 ^ w
+  found_small : (xs : List (Numbered X)) (n : ℕ) {t : X} → small xs ≡ true → find xs n ≡ Ok t → n < 256 ^ w
   found_small [] n h e = ok_not_err e
   found_small (k is x ∷ xs) n h e =
       let both = and_both (ltb k (256 ^ w)) (small xs) h in
       go (eqb n k) refl e (ltb-true k (256 ^ w) both.0) (found_small xs n both.1)
     where
-      go : {t : X} (b : Bool) → eqb n k ≡ b → cond b (ok x) (find xs n) ≡ ok t → k < 256 ^ w → (find xs n ≡ ok t → n < 256 ^ w) → n < 256 ^ w
+      go : {t : X} (b : Bool) → eqb n k ≡ b → cond b (Ok x) (find xs n) ≡ Ok t → k < 256 ^ w → (find xs n ≡ Ok t → n < 256 ^ w) → n < 256 ^ w
       go true d e h next = omega (arith, eqb-true n k d)
       go false d e h next = next e
 
-  found_back : (xs : List (Numbered X)) (n : ℕ) {t : X} → small xs ≡ true → find xs n ≡ ok t → find xs (le_number (le_bytes w n)) ≡ ok t
+  found_back : (xs : List (Numbered X)) (n : ℕ) {t : X} → small xs ≡ true → find xs n ≡ Ok t → find xs (le_number (le_bytes w n)) ≡ Ok t
   found_back xs n h e = rw (number_bytes_lem w n (found_small xs n h e)) e
 
 -- ---- the records of an answer
@@ -59,11 +59,11 @@ module _ (ty : PrimitiveType) where
     -- the literals on the chain after record k are bs
     pub record Back (steps k : ℕ) (bs : List (List ℕ)) : Type 0 where
       pub ns : List ℕ
-      pub on : chain steps s k ≡ ok ns
-      pub contents : each (λ n. content (layout ty) (record_at s n)) ns ≡ ok bs
+      pub on : chain steps s k ≡ Ok ns
+      pub contents : each (λ n. content (layout ty) (record_at s n)) ns ≡ Ok bs
 
     one_more : (k : ℕ) (b : List ℕ) (bs : List (List ℕ)) → next_in (record_at s k) ≡ suc k → suc k < record_count s
-        → content (layout ty) (record_at s (suc k)) ≡ ok b → {steps : ℕ} → Back steps (suc k) bs → Back (suc steps) k (b ∷ bs)
+        → content (layout ty) (record_at s (suc k)) ≡ Ok b → {steps : ℕ} → Back steps (suc k) bs → Back (suc steps) k (b ∷ bs)
     one_more k b bs next there first x = record {
       ns = suc k ∷ x.ns;
       on = rw (next, ne_eqb (suc k) 0 (λ z. omega arith), lt-ltb k (suc k) (omega arith), lt-ltb (suc k) (record_count s) there, x.on);
@@ -91,7 +91,7 @@ pub length_answer : (ty : PrimitiveType) (p : Predicate (List ℕ)) → Fits ty 
 unfolding answer_sheet
 length_answer ty p h = omega (arith, length_records ty 1 (literals_in p) h)
 
-answer_head : (ty : PrimitiveType) → head (le_number (le_bytes 1 (type_number ty))) 0 0 ≡ ok (record { column = ty; transform = Identity })
+answer_head : (ty : PrimitiveType) → head (le_number (le_bytes 1 (type_number ty))) 0 0 ≡ Ok (record { column = ty; transform = Identity })
 unfolding head
 answer_head ty = going _ (found_back 1 types (type_number ty) refl (type_found ty)) ∙ going _ (transform_found Identity)
 
@@ -104,7 +104,7 @@ answer_literals ty p h few =
     rw count (chain_back ty (answer_sheet ty p) 0 ls h (omega arith) (omega arith) (next_to_back 1 ls (omega arith)) refl)
 
 pub answer_back : (most : ℕ) (ty : PrimitiveType) (p : Predicate (List ℕ)) → most ≤ 60000 → Fits ty (literals_in p) → length (literals_in p) ≤ most
-    → sheet most (answer_sheet ty p) ≡ ok (record { head = record { column = ty; transform = Identity }; leaf = p })
+    → sheet most (answer_sheet ty p) ≡ Ok (record { head = record { column = ty; transform = Identity }; leaf = p })
 unfolding sheet fields answer_sheet
 answer_back most ty p few h k =
     let s = answer_sheet ty p in

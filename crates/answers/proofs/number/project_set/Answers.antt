@@ -1,57 +1,41 @@
 -- `number::project_set` meets its contract: the set that was collected is written. Assumes nothing.
-use Prim.Native.Nat.{◌≤◌}
-use native.Mathlib.Numerals.{add-one}
-use native.Mathlib.Omega.{arith}
-use mathlib.Core.Path.{◌≡◌, sym, ◌∙◌}
-use borrow.Author.Rules.{rules}
-use Rattle.expr.specs.Operators.{holds_limit}
-use Rattle.sets.specs.code.Sets.{collected, Filled}
-use Rattle.sets.specs.declared.number.Collected.TheVariants.{Count}
-use Rattle.answers.specs.laws.NumberSetLaws.{set_at, set_refused, set_few, set_inside, set_written_lem}
+use Rattle.std.proofs.Common.{rules, add-one, ◌≡◌, refl, sym, ap, ◌∙◌, ℕ, List, length, ℤ, Ok, Err}
+use Rattle.std.specs.Result.{result_map_both}
+use Rattle.values.specs.Outcomes.{Res}
+use Rattle.values.specs.declared.error.ErrorKind.{ErrorKind}
+use Rattle.values.specs.laws.OutcomeLaws.{ok_inj, ok_not_err}
+use Rattle.answers.specs.laws.NumberSetLaws.{set_at, set_refused, set_inside, set_written_lem}
 use Rattle.answers.proofs.number.project_set.Goals as goal
-use Rattle.answers.proofs.number.project_set.Goals.{In-Count}
+use Rattle.answers.proofs.number.project_set.Goals.{After-members}
 
--- what was collected, lifted where that is asked for
-module _ (c : In-Count) where
-  counted : let a = c.args in
-      collected (set_at a.x a.s.now a.records.now) ≡ Count c.in-Count.n
-  counted = sym (c.in-Count.ensures.says ∙ rw c.lifts_for-lifts.ensures)
+-- what is told of a set's size is told of the set
+refused : (r : Res (List ℤ)) {e : ErrorKind} → ◌≡◌ {A = Res ℕ} (Err e) (result_map_both length (λ k. k) r) → r ≡ Err e
+refused (Ok zs) e = ok_not_err e
+refused (Err k) e = cc
 
-  filled : let a = c.args in
-      Filled (set_at a.x a.s.now a.records.now) c.project_set_expr.new.set
-  filled = rw (← c.lifts_for-lifts.ensures) c.in-Count.ensures.filled
+sized : (r : Res (List ℤ)) {n : ℕ} {zs : List ℤ} → ◌≡◌ {A = Res ℕ} (Ok n) (result_map_both length (λ k. k) r) → r ≡ Ok zs → n ≡ length zs
+sized r e is = ok_inj (rw is at e)
 
-  few : c.in-Count.n ≤ holds_limit
-  few =
-      let p = c.requires in
-      set_few p.number_column p.ready_leaf p.operator_value p.operator_value_2 counted filled
+-- the members are those of the set that was collected
+found : (c : After-members) → set_at c.args.x ≡ Ok c.members.result.now
+found c =
+    let filled = rw c.lifts_for-lifts.ensures at c.in_ok-n.ensures.filled in
+    filled ∙ ap Ok (sym c.members.ensures.members)
 
-pub put_numbers-requires : goal.put_numbers-requires
-put_numbers-requires c =
+pub returns-in_err-n : goal.returns-in_err-n
+returns-in_err-n c =
     let p = c.requires in
-    let k = (goal.at.put_numbers-requires c).In-Count in record {
-      n_in_bounds = omega (arith, few k, p.ready_leaf.ready.room);
-      n_le_holds_limit = few k;
-      n_in_bounds_2 = omega (arith, few k, (filled k).size);
-      all_of = set_inside p.number_column p.ready_leaf p.operator_value p.operator_value_2 (counted k) (filled k);
-    }
+    let is = refused _ (rw c.lifts_for-lifts.ensures at c.in_err-n.ensures.says) in
+    rw (set_refused c.args.x p.number_column p.known p.operator_value p.operator_value_2 is) (record { number = search rules; left = refl })
 
-pub overflow_add-result : goal.overflow_add-result
-overflow_add-result c = let h = few (goal.at.overflow_add-result c).In-Count in search rules
-
-pub overflow_cast-result : goal.overflow_cast-result
-overflow_cast-result c = let h = few (goal.at.overflow_cast-result c).In-Count in search rules
-
-pub overflow_mul-result : goal.overflow_mul-result
-overflow_mul-result c = let h = few (goal.at.overflow_mul-result c).In-Count in search rules
-
-pub returns-in-Err : goal.returns-in-Err
-returns-in-Err c =
+pub put_numbers-requires-clause-literals_fit : goal.put_numbers-requires-clause-literals_fit
+put_numbers-requires-clause-literals_fit c =
     let p = c.requires in
-    set_refused p.number_column p.ready_leaf p.operator_value p.operator_value_2 (sym (c.in-Err.ensures.says ∙ rw c.lifts_for-lifts.ensures))
+    set_inside c.args.x p.number_column p.known p.operator_value p.operator_value_2 _ (found (goal.at.put_numbers-requires-clause-literals_fit c).After-members)
 
-pub returns-in-Count : goal.returns-in-Count
-returns-in-Count c =
+pub returns : goal.returns
+returns c =
     let p = c.requires in
-    let k = (goal.at.returns-in-Count c).In-Count in
-    set_written_lem p.number_column p.ready_leaf p.operator_value p.operator_value_2 (counted k) (filled k) c.put_numbers.ensures (rw add-one)
+    let is = found (goal.at.returns c).After-members in
+    let size = sized _ (rw c.lifts_for-lifts.ensures at c.in_ok-n.ensures.says) is in
+    set_written_lem c.args.x p.number_column p.known p.operator_value p.operator_value_2 c.members.result.now is c.put_numbers.ensures (rw (size, add-one))

@@ -4,12 +4,7 @@ use Rattle.answers.specs.laws.StepsLaws.{number_steps_lem}
 use Rattle.answers.proofs.ColumnKinds.{number_column}
 use Rattle.answers.proofs.project.project_binary.Goals as goal
 
-pub returns : goal.returns
-returns c =
-    settled_as
-    (number_steps_lem
-    c.args.x
-    _ _
-    (number_column c.args.x.column c.is_bytes.ensures c.if-is_bytes.false)
-    c.requires.ready_leaf.ready.placed)
-    c.project_one-2.ensures
+pub returns-else-is_bytes : goal.returns-else-is_bytes
+returns-else-is_bytes c =
+    let x = c.args.x in
+    settled_as (number_steps_lem x (number_column x.sheet.literals.column c.is_bytes.ensures c.if-is_bytes.false)) c.project_one-else-is_bytes.ensures

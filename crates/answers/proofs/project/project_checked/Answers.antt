@@ -1,12 +1,11 @@
 -- `project::project_checked` meets its contract: the arms for the transforms without steps; that `_` has steps needs no answer. Assumes nothing.
-use Rattle.answers.specs.code.Leaves.{bytes_leaf_at}
+use Rattle.answers.specs.code.Leaves.{bytes_leaf_of}
 use Rattle.answers.specs.laws.SettledLaws.{settled_none, settled_refused}
 use Rattle.answers.specs.laws.StepsLaws.{void_steps, unknown_steps}
 use Rattle.answers.proofs.project.project_checked.Goals as goal
 
 pub returns-in-Void : goal.returns-in-Void
-returns-in-Void c = settled_none (void_steps c.args.x (bytes_leaf_at c.args.x c.args.s.now c.args.records.now) c.in-Void.is)
+returns-in-Void c = settled_none (void_steps c.args.x (bytes_leaf_of c.args.x) c.in-Void.is)
 
 pub returns-in-Unknown : goal.returns-in-Unknown
-returns-in-Unknown c =
-    settled_refused (unknown_steps c.args.x (bytes_leaf_at c.args.x c.args.s.now c.args.records.now) c.in-Unknown.is)
+returns-in-Unknown c = settled_refused (unknown_steps c.args.x (bytes_leaf_of c.args.x) c.in-Unknown.is)

@@ -1,5 +1,5 @@
 -- `project::project_set` meets its contract: a set that is not kept has no predicate; of the others the steps are those of the column's kind. Assumes nothing.
-use mathlib.Core.Path.{sym, ◌∙◌}
+use Rattle.std.proofs.Common.{sym, ◌∙◌}
 use Rattle.answers.specs.laws.SettledLaws.{settled_none, settled_as}
 use Rattle.answers.specs.laws.StepsLaws.{number_steps_lem, set_not_kept}
 use Rattle.answers.proofs.ColumnKinds.{number_column}
@@ -7,20 +7,9 @@ use Rattle.answers.proofs.project.project_set.Goals as goal
 
 pub returns-then-not-keeps_set : goal.returns-then-not-keeps_set
 returns-then-not-keeps_set c =
-    settled_none
-    (set_not_kept
-    c.args.x
-    c.requires.ready_leaf.known
-    _ _
-    c.requires.operator_value
-    (sym c.keeps_set.ensures ∙ c.if-not-keeps_set.true))
+    settled_none (set_not_kept c.args.x c.requires.known c.requires.operator_value (sym c.keeps_set.ensures ∙ c.if-not-keeps_set.true))
 
-pub returns : goal.returns
-returns c =
-    settled_as
-    (number_steps_lem
-    c.args.x
-    _ _
-    (number_column c.args.x.column c.is_bytes.ensures c.if-is_bytes.false)
-    c.requires.ready_leaf.ready.placed)
-    c.project_set-2.ensures
+pub returns-else-is_bytes : goal.returns-else-is_bytes
+returns-else-is_bytes c =
+    let x = c.args.x in
+    settled_as (number_steps_lem x (number_column x.sheet.literals.column c.is_bytes.ensures c.if-is_bytes.false)) c.project_set-else-is_bytes.ensures

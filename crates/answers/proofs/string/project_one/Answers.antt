@@ -1,30 +1,27 @@
 -- `string::project_one` meets its contract. Assumes nothing.
-use mathlib.Core.Path.{◌≡◌, ◌∙◌}
-use lib.ListN.{get_or}
-use Rattle.sheet.specs.code.ReadAnswers.{content_at}
+use Rattle.std.proofs.Common.{sym, ap, ◌∙◌, Ok}
+use Rattle.expr.specs.Operators.{by_arity}
+use Rattle.projection.specs.code.OneLiteral.{one_test}
+use Rattle.answers.specs.code.Leaves.{one_bytes_written}
 use Rattle.answers.specs.laws.BytesLeafLaws.{one_truncated, one_identity}
 use Rattle.answers.specs.laws.SettledLaws.{settled_as}
-use Rattle.answers.proofs.BytesAnswers.{other_identity}
+use Rattle.answers.proofs.OtherTransforms.{other_identity}
 use Rattle.answers.proofs.string.project_one.Goals as goal
-use Rattle.answers.proofs.string.project_one.Goals.{After-content_of-l}
+use Rattle.answers.proofs.string.project_one.Goals.{in-Truncate, in_default}
 
--- the literal that was read
-read : (c : After-content_of-l) → let a = c.args in c.content_of-l.result.now ≡ content_at a.s.now (get_or a.records.now 0 0)
-read c = c.content_of-l.ensures ∙ rw c.record_of.ensures
-
-pub returns-in-Truncate : goal.returns-in-Truncate
-returns-in-Truncate c =
-    let a = c.args in
-    let content = read (goal.at.returns-in-Truncate c).After-content_of-l in
-    let call = c.project_bytes-p in
-    settled_as
-    (one_truncated a.x a.s.now a.records.now c.requires.ready_leaf c.requires.operator_value _ content _ call.result c.in-Truncate.is call.ensures.says)
-    c.put_projection.ensures
-
-pub returns-in_default : goal.returns-in_default
-returns-in_default c =
-    let a = c.args in
-    let h = c.requires.ready_leaf in
-    let content = read (goal.at.returns-in_default c).After-content_of-l in
-    let is = other_identity a.x.column a.x.to c.requires.bytes_column a.x.transform h.result h.known c.in_default.not-Truncate in
-    settled_as (one_identity a.x a.s.now a.records.now h c.requires.operator_value _ content is) c.put_projection-in_default.ensures
+pub returns : goal.returns
+returns c =
+    let x = c.args.x in
+    let s = c.requires in
+    elim c.match-x.branch [
+      | in-Truncate w ↦
+          let says = rw c.content-l.ensures at w.project_bytes-p.ensures.says in
+          settled_as
+          (one_truncated x s.operator_value w.in-Truncate.width w.in-Truncate.is ∙ ap (one_bytes_written x.to) (sym says))
+          (rw w.p-is at c.put_projection.ensures)
+      | in_default w ↦
+          let is = other_identity x.sheet.literals.column x.to s.bytes_column x.sheet.transform x.typed s.known w.in_default.not-Truncate in
+          settled_as
+          (one_identity x s.operator_value is ∙ ap (λ l. one_bytes_written x.to (Ok (one_test (by_arity x.sheet.operator) l))) (sym c.content-l.ensures))
+          (rw w.p-is at c.put_projection.ensures)
+    ]

@@ -1,12 +1,12 @@
 -- `api::holds::holds` meets its contract: the sheet is read, and then the value is tested. Assumes nothing.
-use Rattle.sheet.specs.laws.ResultLaws.{sheet_told}
-use Rattle.api.proofs.HoldsReads.{no_sheet, value_tested}
+use Rattle.std.proofs.Common.{rules, ◌∙◌}
+use Rattle.api.proofs.HoldsReads.{no_sheet, sheet_tested}
 use Rattle.api.proofs.holds.holds.Goals as goal
 
-pub returns-in-Ok : goal.returns-in-Ok
-returns-in-Ok c =
-    let e = c.read_sheet.ensures in
-    value_tested (sheet_told _ _ e.value e.literals_read c.in-Ok.is) _ c.test_value.ensures
+pub returns-in_err-x : goal.returns-in_err-x
+returns-in_err-x c =
+    let none = no_sheet c.args.sheet.now c.args.value.now c.read_sheet.ensures.told c.in_err-x.was in
+    rw none (search rules)
 
-pub returns-in-Err : goal.returns-in-Err
-returns-in-Err c = no_sheet _ _ _ _ c.read_sheet.ensures.value c.in-Err.is
+pub returns : goal.returns
+returns c = c.test_value.ensures ∙ sheet_tested c.args.sheet.now c.args.value.now c.read_sheet.ensures.told c.in_ok-x.was

@@ -1,20 +1,15 @@
--- The loop's invariant of `literals::number_among`: the literals from index i on answer for all. The measure is what is left of the count. Assumes nothing.
-use Prim.Native.Nat.{◌≤◌, ◌-◌}
-use mathlib.Core.List.{map}
-use mathlib.Core.Path.{◌≡◌}
-use lib.ListN.{take}
+-- `literals::number_among` meets its contract. The loop's invariant: the literals from index i on answer for all. Assumes nothing.
+use Rattle.std.specs.Prelude.{◌≡◌, map, length}
 use lib.Seq.{slice}
 use Rattle.values.specs.Ascending.{elem}
 use Rattle.values.specs.Order.{compare_numbers}
 use Rattle.values.specs.Types.{layout}
-use Rattle.sheet.specs.code.ReadAnswers.{number_at}
+use Rattle.sheet.specs.code.Placed.{number_at}
+use Rattle.sheet.specs.code.SheetAnswers.{numbers_of}
 use Rattle.meets.proofs.literals.number_among.Given as goal
 
 abbrev pub invariant-loop-i : goal.invariant-loop-i
 invariant-loop-i l =
-    (l.i ≤ l.count)
-    × (elem compare_numbers l.v (map (number_at (layout l.column) l.s) (slice l.i l.count l.records))
-    ≡ elem compare_numbers l.v (map (number_at (layout l.column) l.s) (take l.count l.records)))
-
-abbrev pub decreases-loop-i : goal.decreases-loop-i
-decreases-loop-i l = l.count - l.i
+    let ls = l.literals in
+    elem compare_numbers l.v (map (number_at (layout ls.column) ls.sheet.now) (slice l.i (length ls.records.now) ls.records.now))
+    ≡ elem compare_numbers l.v (numbers_of ls)

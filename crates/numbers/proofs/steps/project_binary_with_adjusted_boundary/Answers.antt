@@ -1,13 +1,14 @@
 -- `numbers::steps::project_binary_with_adjusted_boundary` meets its contract. Assumes nothing.
-use Rattle.numbers.proofs.StepArms.{inclusive_leaf}
+use Rattle.std.proofs.Common.{rules}
+use Rattle.expr.specs.Operators.{by_arity}
+use Rattle.numbers.specs.laws.BoundaryLaws.{inclusive_at}
+use Rattle.numbers.proofs.Rows.{inclusive_one}
 use Rattle.numbers.proofs.steps.project_binary_with_adjusted_boundary.Goals as goal
 
-pub returns : goal.returns
-returns c =
+pub project_boundary-requires : goal.project_boundary-requires
+project_boundary-requires c = search (rules, inclusive_one)
+
+pub returns-clause-projected : goal.returns-clause-projected
+returns-clause-projected c =
     let a = c.args in
-    let b = c.adjust_boundary-boundary in
-    let p = c.project_boundary in
-    let lifts = c.is_lifted in record {
-      projected = inclusive_leaf a.column a.transform a.operator a.l c.ranges.l b.result p.result lifts.result p.ensures.projected lifts.ensures b.ensures;
-      one = p.ensures.one;
-    }
+    rw (inclusive_at a.column a.transform (by_arity a.operator) a.l) (search rules)

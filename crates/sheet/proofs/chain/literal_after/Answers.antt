@@ -18,7 +18,7 @@ pub returns-then-is_literal : goal.returns-then-is_literal
 returns-then-is_literal c =
     after_literal _ _ _ _ c.u16_at-next.ensures (omega arith) (omega arith) (sym c.is_literal.ensures ∙ c.if-is_literal.true)
 
-pub returns : goal.returns
-returns c =
+pub returns-else-is_literal : goal.returns-else-is_literal
+returns-else-is_literal c =
     after_broken _ _ _ _ c.u16_at-next.ensures c.if-next-eq0.false
     (λ a b t. clash t (sym c.is_literal.ensures ∙ c.if-is_literal.false))

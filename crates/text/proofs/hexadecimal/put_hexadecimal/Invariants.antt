@@ -1,12 +1,7 @@
--- `hexadecimal::put_hexadecimal` meets its contract. The loop's invariant: to write the digits of the bytes from index i on is to write all. Assumes nothing.
-use Prim.Native.Nat.{◌-◌, ◌≤◌}
-use lib.ListN.{length, drop}
+-- `hexadecimal::put_hexadecimal` meets its contract. The loop's invariant: with the digits of the bytes that are left all is written. Assumes nothing.
+use Rattle.std.specs.Prelude.{◌≡◌, ◌++◌, drop}
 use Rattle.text.specs.Text.{hex_digits, hexadecimal}
-use Rattle.text.proofs.Writes.{Rest}
 use Rattle.text.proofs.hexadecimal.put_hexadecimal.Given as goal
 
-abbrev pub invariant-loop-i : goal.invariant-loop-i
-invariant-loop-i l = (l.i ≤ length l.bs) × Rest l.at (hexadecimal l.bs) l.initial.d l.end (hex_digits (drop l.i l.bs)) l.d
-
-abbrev pub decreases-loop-i : goal.decreases-loop-i
-decreases-loop-i l = length l.bs - l.i
+abbrev pub invariant-loop-b : goal.invariant-loop-b
+invariant-loop-b l = l.out.items ++ hex_digits (drop l.b-index l.bs) ≡ l.fn.out.items ++ hexadecimal l.bs

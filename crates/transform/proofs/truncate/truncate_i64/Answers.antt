@@ -1,48 +1,28 @@
--- `transform::truncate::truncate_i64` meets its contract. The plain facts stand in a `let`, and `simp` carries them over to the locals' bits.
--- Assumes nothing.
-use mathlib.Core.Path.{◌≡◌, sym}
+-- `transform::truncate::truncate_i64` meets its contract: `simp` reads the signed locals back from their bits. Assumes nothing.
+use mathlib.Core.Path.{◌≡◌, ◌∙◌}
+use Prim.Native.Nat.{◌<◌}
 use native.Mathlib.Omega.{arith}
-use lib.IntN.{pos, ◌+ℤ◌, ◌-ℤ◌}
-use lib.Signed.{◌<ℤ◌}
+use lib.IntN.{pos}
 use mir.Syntax.{w64}
 use mir.Val.{SFits}
-use Rattle.values.specs.laws.IntLaws.{ints, plus, minus}
-use Rattle.values.specs.laws.SignedLaws.{back, lt_taken, lt_left}
+use Rattle.values.specs.laws.IntLaws.{ints}
+use Rattle.values.specs.laws.SignedLaws.{back}
 use Rattle.transform.specs.Floor.{floor_mod}
-use Rattle.transform.specs.Truncate.{truncated}
-use Rattle.transform.proofs.Truncating.{least, long_over, long_value}
+use Rattle.transform.specs.laws.FloorLaws.{euclid_rest, rem_lt}
+use Rattle.transform.proofs.Truncating.{no_width, less_rest}
 use Rattle.transform.proofs.truncate.truncate_i64.Goals as goal
-use Rattle.transform.proofs.truncate.truncate_i64.Goals.{After-floor_rem-r}
 
-module _ (c : After-floor_rem-r) where
-  r_is : c.floor_rem-r.result ≡ pos (floor_mod c.args.v c.args.width)
-  r_is = let w : SFits w64 (pos c.args.width) = omega arith in simp (back, c.ranges.v, w) at c.floor_rem-r.ensures
+pub returns-in_err-rest : goal.returns-in_err-rest
+returns-in_err-rest c =
+    let f : SFits w64 (pos c.args.width) = omega ints in
+    let h = simp (c.from.ensures, back, c.ranges.v, f) at c.in_err-rest.ensures in
+    c.from_residual.ensures ∙ no_width c.args.width c.args.v (omega arith) c.ranges.v h
 
-  r_fits : SFits w64 c.floor_rem-r.result
-  r_fits = record { sfits = c.floor_rem-r.type_inv }
-
-  least_fits : SFits w64 (least +ℤ c.floor_rem-r.result)
-  least_fits = let f = r_fits in omega (ints, r_is, plus least c.floor_rem-r.result)
-
-  t_is : truncated c.args.width c.args.v ≡ c.args.v -ℤ c.floor_rem-r.result
-  unfolding truncated
-  t_is = rw (← r_is)
-
-pub returns-then-v-least : goal.returns-then-v-least
-returns-then-v-least c =
-    let s = (goal.at.returns-then-v-least c).After-floor_rem-r in
-    let v = c.args.v in
-    let r = c.floor_rem-r.result in
-    let h = lt_taken c.ranges.v (least_fits s) (simp (back, r_fits s) at c.if-v-least.true) in
-    let low : (v -ℤ r) <ℤ least = omega (ints, plus least r, minus v r) in
-    sym (long_over c.args.width (omega arith) v (rw (t_is s) low))
-
-pub returns-else-v-least : goal.returns-else-v-least
-returns-else-v-least c =
-    let s = (goal.at.returns-else-v-least c).After-floor_rem-r in
-    let v = c.args.v in
-    let r = c.floor_rem-r.result in
-    let h = lt_left c.ranges.v (least_fits s) (simp (back, r_fits s) at c.if-v-least.false) in
-    let f : SFits w64 (v -ℤ r) = omega (ints, r_is s, plus least r, minus v r) in
-    let e = long_value c.args.width (omega arith) v (rw (t_is s) f) in
-    simp (back, c.ranges.v, r_fits s, f) (rw (← t_is s) (sym e))
+pub returns : goal.returns
+returns c =
+    let f : SFits w64 (pos c.args.width) = omega ints in
+    let h = simp (c.from.ensures, back, c.ranges.v, f) at c.in_ok-rest.ensures in
+    let w>0 : 0 < c.args.width = omega (arith, h.0.0) in
+    let e : c.in_ok-rest.rest ≡ pos (floor_mod c.args.v c.args.width) = h.1 ∙ euclid_rest c.args.v c.args.width in
+    let g : SFits w64 c.in_ok-rest.rest = rw e (omega (ints, rem_lt c.args.width w>0 c.args.v)) in
+    less_rest c.args.width c.args.v c.in_ok-rest.rest w>0 e c.checked_sub.result (simp (back, c.ranges.v, g) at c.checked_sub.ensures)

@@ -3,7 +3,6 @@
 use Rattle.values.specs.laws.TestLaws.{picks}
 use Rattle.values.specs.Transforms.{transform_of}
 use Rattle.values.specs.laws.TypesLaws.{transform_missed}
-use Rattle.values.proofs.Refusals.{no_transform}
 use Rattle.values.proofs.transform.without_width.Goals as goal
 
 pub returns-in-0 : goal.returns-in-0
@@ -40,4 +39,4 @@ returns-in-7 c = rw c.in-7.is
 
 pub returns-in_default : goal.returns-in_default
 unfolding transform_of
-returns-in_default c = search (picks, transform_missed, no_transform)
+returns-in_default c = search (picks, transform_missed)

@@ -1,4 +1,4 @@
--- `ascii_words` meets its contract. The loop's invariant: the bytes from i on are UTF-8 just when the whole is. Assumes nothing.
+-- `ascii_words` meets its contract: a word of ASCII at the start changes nothing. Assumes nothing.
 use Rattle.std.proofs.Common.{ℕ, sym, ap, ◌∙◌, arith}
 use lib.Bits.{bit_and}
 use Rattle.values.proofs.Ascii.{ascii_word}
@@ -6,6 +6,5 @@ use Rattle.values.proofs.utf8.ascii_words.Goals as goal
 
 pub loop-i-preserved : goal.loop-i-preserved
 loop-i-preserved c =
-    let s = c.args.s.now in
     let clear = ap (λ (w : ℕ). bit_and w 0x8080808080808080) (sym c.u64_at.ensures) ∙ c.if-u64_at-ne0.false in
-    (omega arith, ascii_word c.loop-i.i s (λ j. omega (arith, c.shared_slice_known-1.given j)) (omega arith) clear ∙ c.loop-i.invariant.1)
+    ascii_word c.loop-i.i c.args.s.now (λ j. omega (arith, c.type_inv.s j)) (omega arith) clear ∙ c.loop-i.invariant

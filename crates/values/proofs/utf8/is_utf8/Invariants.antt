@@ -1,11 +1,10 @@
--- `is_utf8` meets its contract. The loop's invariant: what is awaited of the rest gives the whole answer. Assumes nothing.
-use Rattle.std.proofs.Common.{◌≡◌, ◌-◌, ◌≤◌, length, drop}
+-- `is_utf8` meets its contract. The loop's invariant: the rest is UTF-8 just when the whole is. The measure is its length. Assumes nothing.
+use Rattle.std.proofs.Common.{◌≡◌, length}
 use Rattle.values.specs.Utf8.{utf8}
-use Rattle.values.specs.code.Utf8Rests.{awaited}
 use Rattle.values.proofs.utf8.is_utf8.Given as goal
 
-abbrev pub invariant-loop-i : goal.invariant-loop-i
-invariant-loop-i l = (l.i ≤ length l.s) × (awaited l.q (drop l.i l.s) ≡ utf8 l.s)
+abbrev pub invariant-loop-rest : goal.invariant-loop-rest
+invariant-loop-rest l = utf8 l.rest ≡ utf8 l.s
 
-abbrev pub decreases-loop-i : goal.decreases-loop-i
-decreases-loop-i l = length l.s - l.i
+abbrev pub decreases-loop-rest : goal.decreases-loop-rest
+decreases-loop-rest l = length l.rest

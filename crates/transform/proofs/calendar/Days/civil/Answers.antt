@@ -13,23 +13,23 @@ use Rattle.transform.proofs.calendar.Days.civil.Goals.{After-year}
 
 module _ (c : After-year) where
   -- what `year_groups` gave
-  place : Before c.args.self.0 c.in-Into.groups c.in-Into.day
-  place = before_of _ _ _ (sym c.in-Into.ensures)
+  place : Before c.args.self.0 c.in_ok-groups.groups c.in_ok-groups.day
+  place = before_of _ _ _ (sym c.in_ok-groups.ensures)
 
-  month_is : c.month_in-month.result ≡ civil_month c.args.self.0
+  month_is : c.month_in-month0.result ≡ civil_month c.args.self.0
   month_is =
-      c.month_in-month.ensures
-      ∙ ap (λ (l : Bool). count_off (month_length l) 12 0 c.in-Into.day) c.leap.ensures
+      c.month_in-month0.ensures
+      ∙ ap (λ (l : Bool). count_off (month_length l) 12 0 c.in_ok-groups.day) c.leap.ensures
       ∙ place.month_is
 
   year_is : to_z w64 (of_z w64 c.year.result) ≡ civil_year c.args.self.0
   year_is = back {w = w64} (ok c.year.result c.year.type_inv) ∙ c.year.ensures ∙ place.year_is
 
 pub leap-requires : goal.leap-requires
-leap-requires c = (before_of _ _ _ (sym c.in-Into.ensures)).range
+leap-requires c = (before_of _ _ _ (sym c.in_ok-groups.ensures)).range
 
-pub month_in-month-requires : goal.month_in-month-requires
-month_in-month-requires c = rw c.leap.ensures (before_of _ _ _ (sym c.in-Into.ensures)).in_year
+pub month_in-month0-requires : goal.month_in-month0-requires
+month_in-month0-requires c = rw c.leap.ensures (before_of _ _ _ (sym c.in_ok-groups.ensures)).in_year
 
 pub overflow_cast-result : goal.overflow_cast-result
 overflow_cast-result c =

@@ -2,20 +2,21 @@
 use borrow.Author.Rules.{rules}
 use mathlib.Core.Path.{◌≡◌, ap, ◌∙◌}
 use mathlib.Core.Bool.{true}
-use lib.IntN.{ℤ, pos, ◌+ℤ◌, ◌-ℤ◌, ◌*ℤ◌}
+use lib.IntN.{ℤ, pos, ◌+ℤ◌}
 use mir.Syntax.{w32, w64}
 use mir.Val.{SFits, to_z, of_z}
-use Rattle.values.specs.laws.IntLaws.{ints, plus, times}
+use Rattle.std.specs.Int.{int_div_euclid, int_rem_euclid}
+use Rattle.values.specs.laws.IntLaws.{ints, plus}
 use Rattle.values.specs.laws.SignedLaws.{back, ok}
-use Rattle.transform.specs.Floor.{floor_div}
+use Rattle.transform.specs.laws.FloorLaws.{euclid_quotient, euclid_rest}
 use Rattle.transform.specs.Calendar.{in_calendar}
-use Rattle.transform.proofs.CountedOff.{n400, in_400, n400_fits, in_400_small, in_400_is, counted_off}
+use Rattle.transform.proofs.CountedOff.{days, n400, in_400, n400_fits, in_400_small, counted_off}
 use Rattle.transform.proofs.Ends.{ends_within}
 use Rattle.transform.proofs.calendar.Days.year_groups.Goals as goal
-use Rattle.transform.proofs.calendar.Days.year_groups.Goals.{After-floor_div-n400}
+use Rattle.transform.proofs.calendar.Days.year_groups.Goals.{After-div_euclid-n400, After-rem_euclid-in_400}
 
--- what the division gave, and what it left
-module _ (c : After-floor_div-n400) where
+-- what the division gave
+module _ (c : After-div_euclid-n400) where
   abbrev d : ℤ
   d = c.args.self.0
 
@@ -25,60 +26,38 @@ module _ (c : After-floor_div-n400) where
   within : in_calendar d ≡ true
   within = search (rules, ends_within)
 
-  wide : SFits w64 (to_z w32 (of_z w32 d))
-  wide = rw (back fit) (omega (ints, fit))
+  sum_is : to_z w64 (of_z w64 c.from-days.result) +ℤ pos 719162 ≡ days d
+  sum_is =
+      ap (λ (z : ℤ). z +ℤ pos 719162)
+      (back {w = w64} (ok c.from-days.result c.from-days.type_inv) ∙ c.from-days.ensures ∙ back fit)
 
-  abbrev days : ℤ
-  days = to_z w64 (of_z w64 (to_z w32 (of_z w32 d))) +ℤ pos 719162
+  sum_back : to_z w64 (of_z w64 (to_z w64 (of_z w64 c.from-days.result) +ℤ pos 719162)) ≡ days d
+  sum_back = let f : SFits w64 (days d) = omega (ints, fit, plus d (pos 719162)) in rw (sum_is, back f)
 
-  plain : days ≡ d +ℤ pos 719162
-  plain = rw (back wide, back fit)
+  n400_is : to_z w64 (of_z w64 c.div_euclid-n400.result) ≡ n400 d
+  n400_is =
+      back {w = w64} (ok c.div_euclid-n400.result c.div_euclid-n400.type_inv)
+      ∙ c.div_euclid-n400.ensures
+      ∙ ap (λ (z : ℤ). int_div_euclid z (pos 146097)) sum_back
+      ∙ euclid_quotient (days d) 146097
 
-  days_fit : SFits w64 days
-  days_fit = rw plain (omega (ints, fit, plus d (pos 719162)))
+-- and what it left
+in_400_is : (c : After-rem_euclid-in_400) → to_z w64 (of_z w64 c.rem_euclid-in_400.result) ≡ pos (in_400 c.args.self.0)
+in_400_is c =
+    back {w = w64} (ok c.rem_euclid-in_400.result c.rem_euclid-in_400.type_inv)
+    ∙ c.rem_euclid-in_400.ensures.value
+    ∙ ap (λ (z : ℤ). int_rem_euclid z (pos 146097)) (sum_back (goal.at.overflow_cast-in_400 c).After-div_euclid-n400)
+    ∙ euclid_rest (days c.args.self.0) 146097
 
-  days_are : to_z w64 (of_z w64 days) ≡ d +ℤ pos 719162
-  days_are = back {w = w64} days_fit ∙ plain
-
-  n400_back : to_z w64 (of_z w64 c.floor_div-n400.result) ≡ n400 d
-  n400_back = back {w = w64} (ok c.floor_div-n400.result c.floor_div-n400.type_inv) ∙ c.floor_div-n400.ensures ∙ ap (λ (z : ℤ). floor_div z 146097) days_are
-
-  abbrev counted : ℤ
-  counted = to_z w64 (of_z w64 c.floor_div-n400.result) *ℤ pos 146097
-
-  counted_fits : SFits w64 counted
-  counted_fits = rw n400_back (omega (ints, n400_fits d within, times (n400 d) 146097))
-
-  abbrev left : ℤ
-  left = to_z w64 (of_z w64 days) -ℤ to_z w64 (of_z w64 counted)
-
-  left_is : left ≡ pos (in_400 d)
-  left_is = rw (back counted_fits, days_are, n400_back) (in_400_is d)
-
-  left_fits : SFits w64 left
-  left_fits = rw left_is (omega (ints, in_400_small d))
-
-  left_back : to_z w64 (of_z w64 left) ≡ pos (in_400 d)
-  left_back = back {w = w64} left_fits ∙ left_is
-
-pub overflow_mul-in_400 : goal.overflow_mul-in_400
-overflow_mul-in_400 c = counted_fits (goal.at.overflow_mul-in_400 c).After-floor_div-n400
-
-pub overflow_sub-in_400 : goal.overflow_sub-in_400
-overflow_sub-in_400 c = left_fits (goal.at.overflow_sub-in_400 c).After-floor_div-n400
+pub overflow_cast-n400 : goal.overflow_cast-n400
+overflow_cast-n400 c = rw (n400_is c) (n400_fits (d c) (within c))
 
 pub overflow_cast-in_400 : goal.overflow_cast-in_400
-overflow_cast-in_400 c =
-    let p = (goal.at.overflow_cast-in_400 c).After-floor_div-n400 in
-    rw (left_back p) (tt, record { fits = omega (ints, in_400_small (d p)) })
-
-pub overflow_cast-groups : goal.overflow_cast-groups
-overflow_cast-groups c =
-    let p = (goal.at.overflow_cast-groups c).After-floor_div-n400 in
-    rw (n400_back p) (n400_fits (d p) (within p))
+overflow_cast-in_400 c = rw (in_400_is c) (tt, record { fits = omega (ints, in_400_small c.args.self.0) })
 
 pub returns : goal.returns
 returns c =
-    let p = (goal.at.returns c).After-floor_div-n400 in
-    rw (c.groups_before-n1.ensures, c.groups_before-n100.ensures, left_back p, n400_back p, back (n400_fits (d p) (within p)))
+    let p = (goal.at.returns c).After-div_euclid-n400 in
+    let q = (goal.at.returns c).After-rem_euclid-in_400 in
+    rw (c.min-n1.ensures, c.min-n100.ensures, in_400_is q, n400_is p, back (n400_fits (d p) (within p)))
     (counted_off (d p) (within p))

@@ -1,2 +1,0 @@
--- Lemmas that the proofs share.
-pub mod FileReads

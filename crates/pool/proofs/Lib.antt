@@ -1,3 +1,0 @@
--- Lemmas that several proofs share.
-pub mod PoolArms
-pub mod HandedArms

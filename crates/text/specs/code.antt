@@ -1,0 +1,2 @@
+-- What the code of `text` needs of its output.
+pub mod Room

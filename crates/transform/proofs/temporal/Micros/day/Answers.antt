@@ -1,9 +1,0 @@
--- `transform::temporal::Micros::day` meets its contract: one division by the unit. Assumes nothing.
-use Rattle.transform.proofs.Moments.{moments}
-use Rattle.transform.proofs.temporal.Micros.day.Goals as goal
-
-pub overflow_cast-result : goal.overflow_cast-result
-overflow_cast-result c = search moments
-
-pub returns : goal.returns
-returns c = search moments

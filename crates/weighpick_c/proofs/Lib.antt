@@ -1,2 +1,0 @@
--- Lemmas that several proofs of this crate share.
-pub mod Named

@@ -1,2 +1,0 @@
--- What the arrays of the code of `write` mean, as the definitions have it.
-pub mod Parts
