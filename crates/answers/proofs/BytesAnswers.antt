@@ -1,19 +1,9 @@
--- A set of byte strings that was collected: a refusal, or how many members, and their records. Assumes nothing.
-use Rattle.std.proofs.Common.{arith, ◌≡◌, refl, ℕ, ◌<◌, List, sym, ap, length, take, Ok, Err, length-take-le, get_or-take}
-use Rattle.std.specs.Result.{result_map_both}
+-- A set of byte strings that was collected: its members, by their records. Assumes nothing.
+use Rattle.std.proofs.Common.{arith, ◌≡◌, ◌∙◌, ℕ, ◌<◌, List, sym, ap, length, take, Ok, length-take-le, get_or-take}
 use Rattle.values.specs.Outcomes.{Res}
-use Rattle.values.specs.declared.error.ErrorKind.{ErrorKind}
-use Rattle.values.specs.laws.OutcomeLaws.{ok_inj, ok_not_err}
 use Rattle.sheet.specs.code.ReadAnswers.{Parts, parts_at}
 use Rattle.sets.specs.code.Sets.{FilledParts}
-
--- how many members the code says
-abbrev pub counted : Res (List (List ℕ)) → Res ℕ
-counted r = result_map_both length (λ e. e) r
-
-pub refused : (r : Res (List (List ℕ))) {e : ErrorKind} → Err e ≡ counted r → r ≡ Err e
-refused (Ok ts) is = ok_not_err is
-refused (Err k) is = cc
+use Rattle.answers.specs.laws.CollectedLaws.{counted, found_count}
 
 -- the set, as the first n of the array have it
 pub record Collected (s : List ℕ) (found : Res (List (List ℕ))) (sizes set : List ℕ) (n : ℕ) : Type 0 where
@@ -21,11 +11,10 @@ pub record Collected (s : List ℕ) (found : Res (List (List ℕ))) (sizes set :
   pub parts : Parts s sizes set n
 
 pub collected : (found : Res (List (List ℕ))) {s sizes set : List ℕ} {n : ℕ} → Ok n ≡ counted found → FilledParts s found sizes set → Collected s found sizes set n
-collected (Ok ts) says filled =
-    let m = filled.members ts refl in
-    let n = ok_inj says in
-    rw n (record { is = ap Ok (sym m.0); parts = m.1 })
-collected (Err e) says filled = ok_not_err (sym says)
+collected found says filled =
+    let k = found_count found (sym says) in
+    let m = filled.members k.0 k.1 in
+    rw k.2 (record { is = k.1 ∙ ap Ok (sym m.0); parts = m.1 })
 
 pub parts_taken : (s sizes set : List ℕ) (n : ℕ) → Parts s sizes set n → Parts s sizes (take n set) (length (take n set))
 parts_taken s sizes set n p =

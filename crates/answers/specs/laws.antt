@@ -4,6 +4,7 @@ pub mod LeafLaws
 pub mod ReadyLaws
 pub mod StepsLaws
 pub mod OneLiteralLaws
+pub mod CollectedLaws
 pub mod NumberLeafLaws
 pub mod NumberSetLaws
 pub mod BytesLeafLaws

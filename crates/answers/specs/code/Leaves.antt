@@ -39,15 +39,27 @@ bytes_written to r = do
   q ← r
   Ok (mapped (λ p. answer_sheet to (map_literals (λ s. s) p)) q)
 
-module _ (x : Leaf) where
-  unfoldable pub number_steps : Predicate ℤ → Res (Projected (List ℕ))
-  number_steps l = numbers_written x.to (by_transform compare_numbers (number_step x.sheet.literals.column x.sheet.transform x.question) x.sheet.transform l)
+-- by what is asked, the column, the type of its partition values and the transform
+module _ (question : Question) (column to : PrimitiveType) (transform : Transform) where
+  unfoldable pub number_steps_under : Predicate ℤ → Res (Projected (List ℕ))
+  number_steps_under l = numbers_written to (by_transform compare_numbers (number_step column transform question) transform l)
 
-  unfoldable pub byte_steps : Predicate (List ℕ) → Res (Projected (List ℕ))
-  byte_steps l = bytes_written x.to (by_transform compare_bytes (bytes_step x.sheet.literals.column x.sheet.transform x.question) x.sheet.transform l)
+  unfoldable pub byte_steps_under : Predicate (List ℕ) → Res (Projected (List ℕ))
+  byte_steps_under l = bytes_written to (by_transform compare_bytes (bytes_step column transform question) transform l)
+
+  abbrev pub steps_under : Predicate (List ℕ) → Res (Projected (List ℕ))
+  steps_under l = by_layout (layout column) (λ n. number_steps_under (map_literals (λ bs. signed n (le_number bs)) l)) (byte_steps_under l)
+
+-- and those of the code's leaf
+module _ (x : Leaf) where
+  abbrev pub number_steps : Predicate ℤ → Res (Projected (List ℕ))
+  number_steps l = number_steps_under x.question x.sheet.literals.column x.to x.sheet.transform l
+
+  abbrev pub byte_steps : Predicate (List ℕ) → Res (Projected (List ℕ))
+  byte_steps l = byte_steps_under x.question x.sheet.literals.column x.to x.sheet.transform l
 
   abbrev pub steps : Predicate (List ℕ) → Res (Projected (List ℕ))
-  steps l = by_layout (layout x.sheet.literals.column) (λ n. number_steps (map_literals (λ bs. signed n (le_number bs)) l)) (byte_steps l)
+  steps l = steps_under x.question x.sheet.literals.column x.to x.sheet.transform l
 
 -- the leaf, with its literals in the order of the chain
 abbrev pub number_leaf_of : Leaf → Predicate ℤ

@@ -30,7 +30,7 @@ use Rattle.sheet.specs.Records.{record_size}
 use Rattle.sheet.specs.laws.SheetLaws.{Fits}
 use Rattle.write.specs.Written.{head_record, next_to, literal_records, answer_bytes, answer_sheet}
 use Rattle.write.specs.laws.WrittenLaws.{length_records}
-use Rattle.answers.specs.code.Leaves.{bytes_written, byte_steps, bytes_leaf_of, one_bytes_written, has_steps, BytesColumn}
+use Rattle.answers.specs.code.Leaves.{bytes_written, byte_steps_under, byte_steps, bytes_leaf_of, one_bytes_written, has_steps, BytesColumn}
 use Rattle.answers.specs.laws.OneLiteralLaws.{one_literal}
 use Rattle.answers.specs.declared.leaf.Leaf.{Leaf}
 
@@ -119,14 +119,14 @@ module _ (x : Leaf) (single : takes_one (by_arity x.sheet.operator) ≡ true) wh
   -- what the code projects it to is what the steps give
   pub one_truncated : (width : ℕ) → x.sheet.transform ≡ Truncate width
       → byte_steps x (bytes_leaf_of x) ≡ one_bytes_written x.to (bytes_leaf x.question x.sheet.literals.column (Truncate width) (by_arity x.sheet.operator) literal)
-  unfolding byte_steps
+  unfolding byte_steps_under
   one_truncated width is =
       let y = x.sheet in
       cut_steps x.question y.literals.column x.to y.transform (bytes_leaf_of x) width is
       ∙ rw (one_literal x single (content_at y.literals.sheet.now)) (one_through x.to literal y.literals.column (Truncate width) x.question (by_arity y.operator) single)
 
   pub one_identity : x.sheet.transform ≡ Identity → byte_steps x (bytes_leaf_of x) ≡ one_bytes_written x.to (Ok (one_test (by_arity x.sheet.operator) literal))
-  unfolding byte_steps
+  unfolding byte_steps_under
   one_identity is =
       let y = x.sheet in
       identity_steps x.question y.literals.column x.to y.transform (bytes_leaf_of x) is

@@ -26,7 +26,7 @@ use Rattle.sheet.specs.code.SheetAnswers.{contents_of}
 use Rattle.write.specs.Written.{answer_bytes, answer_sheet}
 use Rattle.sets.specs.laws.SetLaws.{as_set, bytes_within, bytes_outside, bytes_set_identity}
 use Rattle.sets.specs.code.Sets.{bytes_set}
-use Rattle.answers.specs.code.Leaves.{bytes_written, byte_steps, bytes_leaf_of, has_steps, kept_by, keeps, BytesColumn}
+use Rattle.answers.specs.code.Leaves.{bytes_written, byte_steps_under, byte_steps, bytes_leaf_of, has_steps, kept_by, keeps, BytesColumn}
 use Rattle.answers.specs.laws.BytesLeafLaws.{by_transform_lem}
 use Rattle.answers.specs.declared.leaf.Leaf.{Leaf}
 
@@ -70,7 +70,7 @@ set_at x = bytes_set x.sheet.literals.column x.sheet.transform (contents_of x.sh
 
 pub set_steps : (x : Leaf) → BytesColumn x.sheet.literals.column → has_steps x.sheet.transform ≡ true → takes_many (by_arity x.sheet.operator) ≡ true
     → keeps x.sheet.transform x.question (by_arity x.sheet.operator) ≡ true → byte_steps x (bytes_leaf_of x) ≡ set_written x.to x.sheet.operator (set_at x)
-unfolding byte_steps
+unfolding byte_steps_under
 set_steps x bs known several kept =
     let a = by_arity x.sheet.operator in
     let column = x.sheet.literals.column in

@@ -20,9 +20,8 @@ use Rattle.answers.specs.Answers.{projected, projected_leaf}
 use Rattle.sheet.specs.code.Contents.{all_utf8}
 use Rattle.answers.specs.Kinds.{numbers, byte_strings}
 use Rattle.sheet.specs.Values.{by_layout, map_literals}
-use Rattle.answers.specs.code.Leaves.{numbers_written, bytes_written, number_steps, byte_steps, steps}
+use Rattle.answers.specs.code.Leaves.{numbers_written, bytes_written, number_steps_under, byte_steps_under, steps_under}
 use Rattle.sheet.specs.laws.ReadLaws.{number_literals, bytes_literals}
-use Rattle.answers.specs.declared.leaf.Leaf.{Leaf}
 
 -- no column of numbers is a String
 pub numbers_string : (column : PrimitiveType) (n : ℕ) → layout column ≡ number n → same_type column String ≡ false
@@ -82,20 +81,14 @@ module _ (question : Question) (column : PrimitiveType) (transform : Transform) 
       go (number n) = rw r
       go (bytes n) = rw r
 
-module _ (x : Leaf) (leaf : Predicate (List ℕ)) where
-  abbrev column : PrimitiveType
-  column = x.sheet.literals.column
-
-  abbrev transform : Transform
-  transform = x.sheet.transform
-
-  pub leaf_steps : asked column leaf ≡ true → projected_leaf x.question column transform leaf ≡ steps x leaf
-  unfolding number_steps byte_steps project_numbers project_bytes
-  leaf_steps h = checked_leaf x.question column transform leaf ∙ passing NotUtf8 (rest x.question column transform leaf) h ∙ go (layout column)
+  pub leaf_steps : {to : PrimitiveType} → asked column leaf ≡ true → result_type transform column ≡ Ok to
+      → projected_leaf question column transform leaf ≡ steps_under question column to transform leaf
+  unfolding number_steps_under byte_steps_under project_numbers project_bytes
+  leaf_steps {to} h r = checked_leaf ∙ passing NotUtf8 rest h ∙ go (layout column)
     where
       go : (l : Layout) → by_layout l
-          (λ n. result_type transform column >>= λ to. numbers_written to (project_numbers x.question column transform (number_leaf x.question column transform leaf n)))
-          (result_type transform column >>= λ to. bytes_written to (project_bytes x.question column transform leaf))
-          ≡ by_layout l (λ n. number_steps x (map_literals (λ bs. signed n (le_number bs)) leaf)) (byte_steps x leaf)
-      go (number n) = rw x.typed
-      go (bytes n) = rw x.typed
+          (λ n. result_type transform column >>= λ to. numbers_written to (project_numbers question column transform (number_leaf n)))
+          (result_type transform column >>= λ to. bytes_written to (project_bytes question column transform leaf))
+          ≡ by_layout l (λ n. number_steps_under question column to transform (number_leaf n)) (byte_steps_under question column to transform leaf)
+      go (number n) = rw r
+      go (bytes n) = rw r

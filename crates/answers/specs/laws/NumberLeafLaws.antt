@@ -37,7 +37,7 @@ use Rattle.write.specs.Written.{answer_bytes, answer_sheet, number_bytes}
 use Rattle.write.specs.laws.WrittenLaws.{length_answer}
 use Rattle.answers.specs.code.Settled.{Settled}
 use Rattle.sheet.specs.Values.{map_literals}
-use Rattle.answers.specs.code.Leaves.{numbers_written, number_steps, number_leaf_of, one_written, NumbersIn, has_steps, is_identity, NumberColumn}
+use Rattle.answers.specs.code.Leaves.{numbers_written, number_steps_under, number_steps, number_leaf_of, one_written, NumbersIn, has_steps, is_identity, NumberColumn}
 use Rattle.answers.specs.laws.OneLiteralLaws.{takes_one_lem, takes_many_lem, one_literal}
 use Rattle.sheet.specs.laws.ReadLaws.{map_operator, map_literals_lem}
 use Rattle.answers.specs.laws.StepsLaws.{steps_through}
@@ -146,7 +146,7 @@ module _ (x : Leaf) (column : NumberColumn x.sheet.literals.column) (known : has
   -- under Identity it is the leaf itself
   pub one_itself : x.sheet.transform ≡ Identity
       → number_steps x (number_leaf_of x) ≡ one_written x.to (number_projected (Ok (Some (One x.sheet.operator (literal_of x)))))
-  unfolding number_steps
+  unfolding number_steps_under
   one_itself t = rw (one_leaf, is_one) (identity_steps x.question x.sheet.literals.column x.to x.sheet.transform o (literal_of x) t)
 
   pub itself_inside : x.sheet.transform ≡ Identity → NumbersIn x.to (Some (One x.sheet.operator (literal_of x)))
@@ -158,7 +158,7 @@ module _ (x : Leaf) (column : NumberColumn x.sheet.literals.column) (known : has
     Comes_to p = number_projected p ≡ number_leaf x.question x.sheet.literals.column x.sheet.transform (by_arity x.sheet.operator) (literal_of x)
 
     pub one_projected : (p : Res (Option NumberTest)) → Comes_to p → number_steps x (number_leaf_of x) ≡ one_written x.to (number_projected p)
-    unfolding number_steps
+    unfolding number_steps_under
     one_projected p e =
         let y = x.sheet in
         rw (one_leaf, leaf_stepped x.question y.literals.column x.to y.transform (by_arity y.operator) single (literal_of x) x.typed known other p e)

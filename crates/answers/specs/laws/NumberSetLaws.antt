@@ -30,7 +30,7 @@ use Rattle.write.specs.Written.{answer_bytes, number_bytes}
 use Rattle.sets.specs.laws.SetLaws.{as_set, number_within, number_outside, number_outside_older, number_set_identity, number_set_lands}
 use Rattle.sets.specs.code.Sets.{number_set}
 use Rattle.answers.specs.code.Settled.{Settled}
-use Rattle.answers.specs.code.Leaves.{numbers_written, number_steps, number_leaf_of, has_steps, kept_by, keeps, NumberColumn}
+use Rattle.answers.specs.code.Leaves.{numbers_written, number_steps_under, number_steps, number_leaf_of, has_steps, kept_by, keeps, NumberColumn}
 use Rattle.answers.specs.laws.NumberLeafLaws.{predicate_written, numbers_inside}
 use Rattle.answers.specs.laws.OneLiteralLaws.{takes_many_lem}
 use Rattle.answers.specs.declared.leaf.Leaf.{Leaf}
@@ -94,7 +94,7 @@ module _ (x : Leaf) (column : NumberColumn x.sheet.literals.column) (known : has
   is_many = (takes_many_lem (by_arity x.sheet.operator) several).1
 
   leaf_steps : number_steps x (number_leaf_of x) ≡ numbers_written x.to (as_predicate x.sheet.literals.column x.question o (numbers_of x.sheet.literals) (set_at x))
-  unfolding number_steps
+  unfolding number_steps_under
   leaf_steps =
       let y = x.sheet in
       let k : keeps y.transform x.question (many o) ≡ true = subst (λ (a : Operator). keeps y.transform x.question a ≡ true) is_many kept in

@@ -1,7 +1,8 @@
 -- What a leaf of a sheet that was read is answered: 4, then 5, then the steps. Assumes nothing.
-use Rattle.std.specs.Prelude.{Bool, true, false, not, ◌||◌, ◌≡◌, length, Err}
+use Rattle.std.specs.Prelude.{Bool, true, false, not, ◌||◌, ◌≡◌, length, Ok, Err}
 use Rattle.std.proofs.Common.{◌∙◌}
 use Rattle.values.specs.Types.{layout, same_type}
+use Rattle.values.specs.declared.datatypes.PrimitiveType.{PrimitiveType}
 use Rattle.values.specs.declared.datatypes.PrimitiveType.TheVariants.{String}
 use Rattle.values.specs.declared.error.ErrorKind.{ErrorKind}
 use Rattle.values.specs.declared.error.ErrorKind.TheVariants.{NotUtf8}
@@ -14,8 +15,7 @@ use Rattle.sheet.specs.code.SheetAnswers.{contents_of, sheet_of}
 use Rattle.sheet.specs.declared.sheet.Sheet.{Sheet}
 use Rattle.sheet.specs.laws.ReadLaws.{literals_taken}
 use Rattle.answers.specs.laws.LeafLaws.{leaf_not_utf8, leaf_no_type, leaf_steps}
-use Rattle.answers.specs.code.Leaves.{bytes_leaf_of, projected_at, steps}
-use Rattle.answers.specs.declared.leaf.Leaf.{Leaf}
+use Rattle.answers.specs.code.Leaves.{projected_at, steps_under}
 
 module _ (question : Question) (y : Sheet) where
   -- whether the literals are what the column asks for
@@ -33,5 +33,6 @@ module _ (question : Question) (y : Sheet) where
   pub ready_no_type : {e : ErrorKind} → literals_ok ≡ true → result_type y.transform y.literals.column ≡ Err e → projected_at question (sheet_of y) ≡ Err e
   ready_no_type h r = leaf_no_type question y.literals.column y.transform (sheet_of y).leaf (literals_encoded_lem ∙ h) r
 
-pub ready_steps : (x : Leaf) → literals_ok x.question x.sheet ≡ true → projected_at x.question (sheet_of x.sheet) ≡ steps x (bytes_leaf_of x)
-ready_steps x h = leaf_steps x (bytes_leaf_of x) (literals_encoded_lem x.question x.sheet ∙ h)
+  pub ready_steps : {to : PrimitiveType} → literals_ok ≡ true → result_type y.transform y.literals.column ≡ Ok to
+      → projected_at question (sheet_of y) ≡ steps_under question y.literals.column to y.transform (sheet_of y).leaf
+  ready_steps h r = leaf_steps question y.literals.column y.transform (sheet_of y).leaf (literals_encoded_lem ∙ h) r

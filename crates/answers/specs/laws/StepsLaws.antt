@@ -18,18 +18,19 @@ use Rattle.expr.specs.Operators.{Unary, SetOperator, is_in, not_in, Operator, on
 use Rattle.expr.specs.code.OperatorAnswers.{leaf_of, takes_none, takes_many}
 use Rattle.expr.specs.laws.PredicateLaws.{operator_of_lem}
 use Rattle.expr.specs.Predicates.{Test, Predicate, unary, test, set}
+use Rattle.expr.specs.declared.operator.PredicateOperator.{PredicateOperator}
 use Rattle.numbers.specs.laws.BoundaryLaws.{lifted_none}
 use Rattle.projection.specs.Lifting.{lifted}
 use Rattle.projection.specs.Projection.{through, by_transform, number_step, bytes_step}
 use Rattle.projection.specs.Steps.{Projected, some, none}
 use Rattle.projection.specs.declared.question.Question.{Question}
 use Rattle.projection.specs.declared.question.Question.TheVariants.{Inclusive, Strict, Older}
-use Rattle.sheet.specs.code.SheetAnswers.{contents_of}
+use Rattle.sheet.specs.code.Placed.{Placed, contents_at, numbers_at}
 use Rattle.write.specs.Written.{answer_bytes, answer_sheet}
 use Rattle.sheet.specs.code.Contents.{number_in}
 use Rattle.sheet.specs.laws.ReadLaws.{map_leaf, placed_numbers}
 use Rattle.sheet.specs.Values.{by_layout, map_literals}
-use Rattle.answers.specs.code.Leaves.{number_steps, byte_steps, steps, number_leaf_of, bytes_leaf_of}
+use Rattle.answers.specs.code.Leaves.{number_steps_under, byte_steps_under, steps_under, number_steps, steps, number_leaf_of, bytes_leaf_of}
 use Rattle.answers.specs.code.Leaves.{has_steps, is_identity, kept_by, keeps, NumberColumn, BytesColumn}
 use Rattle.answers.specs.declared.leaf.Leaf.{Leaf}
 
@@ -91,85 +92,96 @@ zero_number TimestamptzNs = refl
 zero_number String = refl
 zero_number Binary = refl
 
-module _ (x : Leaf) where
+module _ (question : Question) (column to : PrimitiveType) (transform : Transform) where
   -- ---- by the kind of the column
   either_kind : (leaf : Predicate (List ℕ)) {r : Res (Projected (List ℕ))}
-      → ((n : ℕ) → number_steps x (map_literals (λ bs. signed n (le_number bs)) leaf) ≡ r) → byte_steps x leaf ≡ r → steps x leaf ≡ r
-  either_kind leaf {r} f g = go (layout x.sheet.literals.column)
+      → ((n : ℕ) → number_steps_under question column to transform (map_literals (λ bs. signed n (le_number bs)) leaf) ≡ r)
+      → byte_steps_under question column to transform leaf ≡ r → steps_under question column to transform leaf ≡ r
+  either_kind leaf {r} f g = go (layout column)
     where
-      go : (l : Layout) → by_layout l (λ n. number_steps x (map_literals (λ bs. signed n (le_number bs)) leaf)) (byte_steps x leaf) ≡ r
+      go : (l : Layout) → by_layout l
+          (λ n. number_steps_under question column to transform (map_literals (λ bs. signed n (le_number bs)) leaf))
+          (byte_steps_under question column to transform leaf)
+          ≡ r
       go (number n) = f n
       go (bytes n) = g
 
-  pub bytes_steps : (leaf : Predicate (List ℕ)) → BytesColumn x.sheet.literals.column → steps x leaf ≡ byte_steps x leaf
+  pub bytes_steps : (leaf : Predicate (List ℕ)) → BytesColumn column
+      → steps_under question column to transform leaf ≡ byte_steps_under question column to transform leaf
   bytes_steps leaf is = rw is
 
-  number_kind : (leaf : Predicate (List ℕ)) → NumberColumn x.sheet.literals.column
-      → steps x leaf ≡ number_steps x (map_literals (number_in (layout x.sheet.literals.column)) leaf)
+  number_kind : (leaf : Predicate (List ℕ)) → NumberColumn column
+      → steps_under question column to transform leaf ≡ number_steps_under question column to transform (map_literals (number_in (layout column)) leaf)
   number_kind leaf is = rw is.is
 
-  pub number_steps_lem : NumberColumn x.sheet.literals.column → steps x (bytes_leaf_of x) ≡ number_steps x (number_leaf_of x)
-  number_steps_lem is =
-      let y = x.sheet.literals in
-      number_kind (bytes_leaf_of x) is
-      ∙ ap (number_steps x) (map_leaf (number_in (layout y.column)) [] (by_arity x.sheet.operator) (contents_of y)
-      ∙ rw (zero_number y.column, placed_numbers (layout y.column) y.sheet.now y.records.now (length y.records.now) y.placed))
+  pub number_steps_lem : (a : Operator) (s records : List ℕ) (count : ℕ) → NumberColumn column → Placed (layout column) s records count
+      → steps_under question column to transform (leaf_of [] a (contents_at s records count))
+      ≡ number_steps_under question column to transform (leaf_of (pos 0) a (numbers_at (layout column) s records count))
+  number_steps_lem a s records count is placed =
+      number_kind (leaf_of [] a (contents_at s records count)) is
+      ∙ ap (number_steps_under question column to transform) (map_leaf (number_in (layout column)) [] a (contents_at s records count)
+      ∙ rw (zero_number column, placed_numbers (layout column) s records count placed))
 
   -- ---- by the transform: those without steps
-  pub void_steps : (leaf : Predicate (List ℕ)) → x.sheet.transform ≡ Void → steps x leaf ≡ Ok none
-  unfolding number_steps byte_steps
+  pub void_steps : (leaf : Predicate (List ℕ)) → transform ≡ Void → steps_under question column to transform leaf ≡ Ok none
+  unfolding number_steps_under byte_steps_under
   void_steps leaf is = either_kind leaf (λ n. rw is) (rw is)
 
-  pub unknown_steps : (leaf : Predicate (List ℕ)) → x.sheet.transform ≡ Unknown → steps x leaf ≡ Err FeatureUnsupported
-  unfolding number_steps byte_steps
+  pub unknown_steps : (leaf : Predicate (List ℕ)) → transform ≡ Unknown → steps_under question column to transform leaf ≡ Err FeatureUnsupported
+  unfolding number_steps_under byte_steps_under
   unknown_steps leaf is = either_kind leaf (λ n. rw is) (rw is)
 
   -- ---- by the operator
-  module _ (known : has_steps x.sheet.transform ≡ true) where
+  module _ (known : has_steps transform ≡ true) where
     abbrev number_test : Test ℤ → Res (Projected (Test ℤ))
-    number_test u = number_step x.sheet.literals.column x.sheet.transform x.question u
+    number_test u = number_step column transform question u
 
     abbrev bytes_test : Test (List ℕ) → Res (Projected (Test (List ℕ)))
-    bytes_test u = bytes_step x.sheet.literals.column x.sheet.transform x.question u
+    bytes_test u = bytes_step column transform question u
 
-    unary_leaf : (o : Unary) → x.sheet.operator ≡ operator_of (operators.none o) → steps x (unary o) ≡ Ok (some (answer_bytes x.sheet.operator x.to []))
-    unfolding number_steps byte_steps answer_sheet
-    unary_leaf o is =
+    unary_leaf : (operator : PredicateOperator) (o : Unary) → operator ≡ operator_of (operators.none o)
+        → steps_under question column to transform (unary o) ≡ Ok (some (answer_bytes operator to []))
+    unfolding number_steps_under byte_steps_under answer_sheet
+    unary_leaf operator o is =
         either_kind
         (unary o)
-        (λ n. rw (unary_through compare_numbers number_test x.sheet.transform o known, is))
-        (rw (unary_through compare_bytes bytes_test x.sheet.transform o known, is))
+        (λ n. rw (unary_through compare_numbers number_test transform o known, is))
+        (rw (unary_through compare_bytes bytes_test transform o known, is))
 
-    module _ (o : SetOperator) (left_out : keeps x.sheet.transform x.question (many o) ≡ false) where
-      numbers_none : (zs : List ℤ) → by_transform compare_numbers number_test x.sheet.transform (test (set o zs)) ≡ Ok none
-      numbers_none zs =
-          let k = or_neither (is_identity x.sheet.transform) (kept_by x.question (many o)) left_out in
-          step_none compare_numbers number_test x.sheet.transform (set o zs) known k.0 (numbers_not_kept x.sheet.literals.column x.sheet.transform x.question o zs k.1)
-
-      bytes_none : (ls : List (List ℕ)) → by_transform compare_bytes bytes_test x.sheet.transform (test (set o ls)) ≡ Ok none
-      bytes_none ls =
-          let k = or_neither (is_identity x.sheet.transform) (kept_by x.question (many o)) left_out in
-          step_none compare_bytes bytes_test x.sheet.transform (set o ls) known k.0 (bytes_not_kept x.sheet.literals.column x.sheet.transform x.question o ls k.1)
-
-      set_leaf : (ls : List (List ℕ)) → steps x (test (set o ls)) ≡ Ok none
-      unfolding number_steps byte_steps
-      set_leaf ls = either_kind (test (set o ls)) (λ n. rw (numbers_none (map (λ bs. signed n (le_number bs)) ls))) (rw (bytes_none ls))
-
-    pub unary_steps : takes_none (by_arity x.sheet.operator) ≡ true → steps x (bytes_leaf_of x) ≡ Ok (some (answer_bytes x.sheet.operator x.to []))
-    unary_steps h = go (by_arity x.sheet.operator) (sym (operator_of_lem x.sheet.operator)) h
+    pub unary_steps : (operator : PredicateOperator) (ls : List (List ℕ)) → takes_none (by_arity operator) ≡ true
+        → steps_under question column to transform (leaf_of [] (by_arity operator) ls) ≡ Ok (some (answer_bytes operator to []))
+    unary_steps operator ls h = go (by_arity operator) (sym (operator_of_lem operator)) h
       where
-        go : (a : Operator) → x.sheet.operator ≡ operator_of a → takes_none a ≡ true
-            → steps x (leaf_of [] a (contents_of x.sheet.literals)) ≡ Ok (some (answer_bytes x.sheet.operator x.to []))
-        go (operators.none o) e h = unary_leaf o e
+        go : (a : Operator) → operator ≡ operator_of a → takes_none a ≡ true
+            → steps_under question column to transform (leaf_of [] a ls) ≡ Ok (some (answer_bytes operator to []))
+        go (operators.none o) e h = unary_leaf operator o e
         go (one o) e h = clash h refl
         go (many o) e h = clash h refl
 
-    pub set_not_kept : takes_many (by_arity x.sheet.operator) ≡ true → keeps x.sheet.transform x.question (by_arity x.sheet.operator) ≡ false
-        → steps x (bytes_leaf_of x) ≡ Ok none
-    set_not_kept h k = go (by_arity x.sheet.operator) h k
-      where
-        go : (a : Operator) → takes_many a ≡ true → keeps x.sheet.transform x.question a ≡ false
-            → steps x (leaf_of [] a (contents_of x.sheet.literals)) ≡ Ok none
-        go (operators.none o) h k = clash h refl
-        go (one o) h k = clash h refl
-        go (many o) h k = set_leaf o k (contents_of x.sheet.literals)
+    module _ (o : SetOperator) (left_out : keeps transform question (many o) ≡ false) where
+      numbers_none : (zs : List ℤ) → by_transform compare_numbers number_test transform (test (set o zs)) ≡ Ok none
+      numbers_none zs =
+          let k = or_neither (is_identity transform) (kept_by question (many o)) left_out in
+          step_none compare_numbers number_test transform (set o zs) known k.0 (numbers_not_kept column transform question o zs k.1)
+
+      bytes_none : (ls : List (List ℕ)) → by_transform compare_bytes bytes_test transform (test (set o ls)) ≡ Ok none
+      bytes_none ls =
+          let k = or_neither (is_identity transform) (kept_by question (many o)) left_out in
+          step_none compare_bytes bytes_test transform (set o ls) known k.0 (bytes_not_kept column transform question o ls k.1)
+
+      set_leaf : (ls : List (List ℕ)) → steps_under question column to transform (test (set o ls)) ≡ Ok none
+      unfolding number_steps_under byte_steps_under
+      set_leaf ls = either_kind (test (set o ls)) (λ n. rw (numbers_none (map (λ bs. signed n (le_number bs)) ls))) (rw (bytes_none ls))
+
+    pub set_not_kept : (a : Operator) (ls : List (List ℕ)) → takes_many a ≡ true → keeps transform question a ≡ false
+        → steps_under question column to transform (leaf_of [] a ls) ≡ Ok none
+    set_not_kept (operators.none o) ls h k = clash h refl
+    set_not_kept (one o) ls h k = clash h refl
+    set_not_kept (many o) ls h k = set_leaf o k ls
+
+-- the numbers of a leaf that was read are in their records
+pub number_steps_of : (x : Leaf) → NumberColumn x.sheet.literals.column → steps x (bytes_leaf_of x) ≡ number_steps x (number_leaf_of x)
+number_steps_of x is =
+    let y = x.sheet in
+    let l = y.literals in
+    number_steps_lem x.question l.column x.to y.transform (by_arity y.operator) l.sheet.now l.records.now (length l.records.now) is l.placed

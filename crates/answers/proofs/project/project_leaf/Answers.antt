@@ -14,4 +14,6 @@ returns-in_err-to c =
     rw (ready_no_type c.args.question c.args.sheet (sym c.are_encoded.ensures ∙ c.if-not-are_encoded.false) none) (record { number = search rules; left = refl })
 
 pub returns : goal.returns
-returns c = settled_as (ready_steps _ (sym c.are_encoded.ensures ∙ c.if-not-are_encoded.false)) c.project_checked.ensures
+returns c =
+    let typed = sym c.result_type.ensures ∙ c.in_ok-to.was in
+    settled_as (ready_steps c.args.question c.args.sheet (sym c.are_encoded.ensures ∙ c.if-not-are_encoded.false) typed) c.project_checked.ensures

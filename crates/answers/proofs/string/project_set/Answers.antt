@@ -5,8 +5,9 @@ use Rattle.std.proofs.Math.Seq.{take-length}
 use Rattle.sheet.specs.code.ReadAnswers.{part_at, parts_at}
 use Rattle.answers.specs.laws.BytesLeafLaws.{answer_length}
 use Rattle.answers.specs.laws.BytesSetLaws.{set_written, set_at, set_steps, parts_short}
+use Rattle.answers.specs.laws.CollectedLaws.{found_error}
 use Rattle.answers.specs.laws.SettledLaws.{settled_written}
-use Rattle.answers.proofs.BytesAnswers.{Collected, collected, refused, parts_taken}
+use Rattle.answers.proofs.BytesAnswers.{Collected, collected, parts_taken}
 use Rattle.answers.proofs.string.project_set.Goals as goal
 use Rattle.answers.proofs.string.project_set.Goals.{In_ok-n}
 
@@ -18,7 +19,7 @@ pub returns-in_err-n : goal.returns-in_err-n
 returns-in_err-n c =
     let x = c.args.x in
     let s = c.requires in
-    let is = set_steps x s.bytes_column s.known s.operator_value s.operator_value_2 ∙ ap (set_written x.to x.sheet.operator) (refused _ c.in_err-n.ensures.says) in
+    let is = set_steps x s.bytes_column s.known s.operator_value s.operator_value_2 ∙ ap (set_written x.to x.sheet.operator) (found_error _ (sym c.in_err-n.ensures.says)) in
     rw is (record { number = search rules; left = refl })
 
 pub invariant_of-parts : goal.invariant_of-parts
