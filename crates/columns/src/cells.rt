@@ -43,8 +43,9 @@ impl<'a> Columns<'a> {
     }
 
     // Whether values are there, one a column: 3, then 4.
-    #[tactic(auto, using(crate::specs::laws::ColumnLaws::entries_count, crate::proofs::CellReads::values))]
+    #[tactic(auto, using(crate::proofs::CellReads::values))]
     pub fn check_values(self, values: &[u8], side: Side) -> Result<(), ErrorKind>
+        requires count_nonzero { 0 < length (columns_in self.list.now) }
         ensures { result ≡ without_value (cells_of (side_of side) self.entry.list.now values.now) }
     {
         let (records, rest) = values.as_chunks::<RECORD_SIZE>();

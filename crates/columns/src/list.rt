@@ -76,17 +76,19 @@ fn are_columns(entries: &[Entry]) -> bool
     true
 }
 
-// A list of columns that was read: it has at least one.
+// A list with a column for each of its entries. It need not have one: a broken list has no columns, as the empty list has none, which stands for it then, so that a
+// text is read beside a broken list too. That a list which was read has a column is what `read` says.
 #[derive(Clone, Copy)]
 pub struct Columns<'a> {
     pub list: &'a [u8],
-    pub ghost some: { 0 < length (columns_in list.now) },
+    pub ghost whole: { length (columns_in list.now) ≡ length (entries_in list.now) },
 }
 
 impl<'a> Columns<'a> {
-    #[tactic(auto, using(crate::specs::laws::ColumnLaws::lists))]
+    #[tactic(auto, using(crate::specs::laws::ColumnLaws::lists, crate::specs::laws::ColumnLaws::entries_count))]
     pub fn read(list: &'a [u8]) -> Result<Columns<'a>, ErrorKind>
         ensures read { IfOk result (λ x. x.list.now ≡ list.now) }
+        ensures some { IfOk result (λ x. 0 < length (columns_in x.list.now)) }
         ensures refused { IfErr result (λ e. columns list.now ≡ Err e) }
     {
         let (entries, rest) = list.as_chunks::<ENTRY_SIZE>();
@@ -102,7 +104,6 @@ impl<'a> Columns<'a> {
         self.list.as_chunks::<ENTRY_SIZE>().0
     }
 
-    #[tactic(auto, using(crate::specs::laws::ColumnLaws::entries_count))]
     pub fn count(self) -> usize
         ensures { result ≡ length (columns_in self.entry.list.now) }
     {
@@ -117,7 +118,7 @@ impl<'a> Columns<'a> {
     }
 
     // Type and transform of the column at a place.
-    #[tactic(auto, using(crate::specs::laws::ColumnLaws::entries_count, crate::specs::laws::ColumnLaws::head_at))]
+    #[tactic(auto, using(crate::specs::laws::ColumnLaws::head_at))]
     pub fn fields_at(self, k: usize) -> Fields
         requires { k < length (columns_in self.list.now) }
         ensures { result ≡ fields_of (column_at (columns_in self.entry.list.now) k).head }

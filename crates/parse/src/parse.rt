@@ -81,7 +81,7 @@ impl Request<'_> {
                 }
                 Symbol::Leaf(leaf) => {
                     let answer = ask_leaf(self, leaf, turned);
-                    return Some(filter_to(self, next, 1, false, answer));
+                    return Some(filter_to(self.columns, self.text, next, 1, false, answer));
                 }
                 Symbol::Opening => return self.parse_bracket(next, turned, opened),
                 _ => return None,
@@ -98,12 +98,19 @@ impl Request<'_> {
     {
         if opened == BRACKET_LIMIT {
             let next = skim(self.columns, self.text, at)?;
-            return Some(filter_to(self, next, 0, true, Ok(false)));
+            return Some(filter_to(self.columns, self.text, next, 0, true, Ok(false)));
         }
         let inner = self.parse_or(at, negate, opened + 1)?;
         if inner.ahead != Ahead::Closing {
             return None;
         }
-        Some(filter_to(self, inner.past, inner.leaves, inner.deep, inner.answer))
+        Some(filter_to(
+            self.columns,
+            self.text,
+            inner.past,
+            inner.leaves,
+            inner.deep,
+            inner.answer,
+        ))
     }
 }

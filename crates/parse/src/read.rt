@@ -1,11 +1,10 @@
 // What was read of a filter's text.
 ghost use Rattle.std.specs.Prelude.{◌≡◌, ◌+◌, ◌≤◌, ◌<◌, length};
 ghost use Rattle.columns.specs.code.ColumnAnswers.{columns_in};
-ghost use Rattle.parse.specs.code.FilterReads.{columns_of, Seen};
+ghost use Rattle.parse.specs.code.FilterReads.{Seen};
 ghost use Rattle.parse.specs.code.Reading.{all_of, filter_to, join_read};
 
 use crate::join::join_answers;
-use crate::request::Request;
 use columns::list::Columns;
 use leaves::symbol::{Symbol, symbol_at};
 use values::error::ErrorKind;
@@ -72,17 +71,18 @@ fn look_ahead(columns: Columns, text: &[u8], next: usize) -> (Ahead, usize)
 
 // A filter that ends at `next`, with the symbol there.
 pub fn filter_to(
-    request: &Request,
+    columns: Columns,
+    text: &[u8],
     next: usize,
     leaves: usize,
     deep: bool,
     answer: Result<bool, ErrorKind>,
 ) -> Read
-    requires { next ≤ length request.now.text.now }
+    requires { next ≤ length text.now }
     ensures is { result ≡ filter_to next leaves deep answer result.ahead result.past }
-    ensures seen { Seen (columns_of request.now) request.now.text.now next result.ahead result.past }
+    ensures seen { Seen (columns_in columns.entry.list.now) text.now next result.ahead result.past }
 {
-    let (ahead, past) = look_ahead(request.columns, request.text, next);
+    let (ahead, past) = look_ahead(columns, text, next);
     Read {
         next,
         past,

@@ -222,8 +222,19 @@ module _ (c : List ℕ) where
     pub names_in : map (λ d. d.name) (columns_in c) ≡ map name_of (entries_in c)
     names_in = entry_names (entries_in c) entries_read
 
+  -- as many columns as entries: either all are good, or there is none
+  module _ (whole : length (columns_in c) ≡ length (entries_in c)) where
+    names_whole : map (λ d. d.name) (columns_in c) ≡ map name_of (entries_in c)
+    names_whole = go (columns_in c) (entries_in c) whole names_in
+      where
+        go : (cs : List Column) (es : List (List ℕ)) → length cs ≡ length es → (0 < length cs → map (λ d. d.name) cs ≡ map name_of es)
+            → map (λ d. d.name) cs ≡ map name_of es
+        go [] [] n read = refl
+        go [] (e ∷ es) n read = absurd (omega (arith, n))
+        go (d ∷ cs) es n read = read (omega arith)
+
     pub place_in : (name : List ℕ) → position (λ e. is_equal (compare_bytes name (name_of e))) (entries_in c) ≡ place_of name (columns_in c)
-    place_in name = place_mapped name name_of (entries_in c) ∙ ap (place_among name) (sym names_in)
+    place_in name = place_mapped name name_of (entries_in c) ∙ ap (place_among name) (sym names_whole)
 
   entry_here : (k : ℕ) → k < length (columns_in c) → column (get_or (entries_in c) k []) ≡ Ok (column_at (columns_in c) k)
   entry_here k h =

@@ -4,4 +4,4 @@ use Rattle.columns.specs.laws.ColumnLaws.{place_in}
 use Rattle.columns.proofs.list.Columns.place_of.Goals as goal
 
 pub returns : goal.returns
-returns c = rw c.entries.ensures at c.first_named.ensures ∙ place_in c.args.self.list.now c.args.self.some c.args.name.now
+returns c = rw c.entries.ensures at c.first_named.ensures ∙ place_in c.args.self.list.now c.args.self.whole c.args.name.now
