@@ -54,7 +54,10 @@ module _ (q : Request) where
   not_end next past (ahead.Word And) seen other = λ e. let clash : [] ≡ _ = sym e ∙ seen.0 in cc
   not_end next past (ahead.Word Or) seen other = λ e. let clash : [] ≡ _ = sym e ∙ seen.0 in cc
   not_end next past ahead.Closing seen other = λ e. let clash : [] ≡ _ = sym e ∙ seen.0 in cc
-  not_end next past ahead.Other seen other = λ e. rw e at seen
+  not_end next past ahead.Leaf seen other = λ e. rw e at seen
+  not_end next past ahead.Not seen other = λ e. rw e at seen
+  not_end next past ahead.Opening seen other = λ e. rw e at seen
+  not_end next past ahead.Unreadable seen other = λ e. rw e at seen
 
   module _ (short : length q.text.now ≤ text_limit) where
     abbrev parsed : Found Leaf

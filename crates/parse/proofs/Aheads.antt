@@ -37,7 +37,10 @@ abbrev pub Shows : List Column → List ℕ → ℕ → Ahead → ℕ → Type 0
 Shows cs s next ahead.End past = symbols cs (drop next s) ≡ []
 Shows cs s next (ahead.Word word) past = Goes cs s next (symbol_of word) past
 Shows cs s next ahead.Closing past = Goes cs s next closing past
-Shows cs s next ahead.Other past = IsOther (symbols cs (drop next s))
+Shows cs s next ahead.Leaf past = IsOther (symbols cs (drop next s))
+Shows cs s next ahead.Not past = IsOther (symbols cs (drop next s))
+Shows cs s next ahead.Opening past = IsOther (symbols cs (drop next s))
+Shows cs s next ahead.Unreadable past = IsOther (symbols cs (drop next s))
 
 shown : (cs : List Column) (s : List ℕ) (next past : ℕ) (y : declared-symbol.Symbol) → Symbolises cs s next y past → Shows cs s next (ahead_of y) past
 shown cs s next past symbol.End h = h.is

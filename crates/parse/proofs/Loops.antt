@@ -75,7 +75,10 @@ no_word Or cs s next past (ahead.Word And) seen other = rw seen.0 refl
 no_word Or cs s next past (ahead.Word Or) seen other = absurd (other refl)
 no_word And cs s next past ahead.Closing seen other = rw seen.0 refl
 no_word Or cs s next past ahead.Closing seen other = rw seen.0 refl
-no_word word cs s next past ahead.Other seen other = other_begins word _ seen
+no_word word cs s next past ahead.Leaf seen other = other_begins word _ seen
+no_word word cs s next past ahead.Not seen other = other_begins word _ seen
+no_word word cs s next past ahead.Opening seen other = other_begins word _ seen
+no_word word cs s next past ahead.Unreadable seen other = other_begins word _ seen
 
 module _ (q : Request) (word : Word) (negate : Bool) where
   pub folds : (f g : Filter Leaf)

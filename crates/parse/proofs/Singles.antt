@@ -92,7 +92,10 @@ not_closing cs s next past ahead.End seen other = rw seen refl
 not_closing cs s next past (ahead.Word And) seen other = rw seen.0 refl
 not_closing cs s next past (ahead.Word Or) seen other = rw seen.0 refl
 not_closing cs s next past ahead.Closing seen other = absurd (other refl)
-not_closing cs s next past ahead.Other seen other = other_closes _ seen
+not_closing cs s next past ahead.Leaf seen other = other_closes _ seen
+not_closing cs s next past ahead.Not seen other = other_closes _ seen
+not_closing cs s next past ahead.Opening seen other = other_closes _ seen
+not_closing cs s next past ahead.Unreadable seen other = other_closes _ seen
 
 module _ (q : Request) (at : ℕ) (negate : Bool) (opened : ℕ) where
   -- one too many

@@ -28,14 +28,16 @@ impl Word {
     }
 }
 
-// What stands after a filter.
+// The symbol after a filter: what may stand there, and then what may not.
 #[derive(Clone, Copy, PartialEq, Eq)]
 pub enum Ahead {
     End,
     Word(Word),
     Closing,
-    // What cannot stand there.
-    Other,
+    Leaf,
+    Not,
+    Opening,
+    Unreadable,
 }
 
 // A filter. The fields of a word come first: the others then lie side by side, and are handed through memory in one piece.
@@ -64,7 +66,10 @@ fn look_ahead(columns: Columns, text: &[u8], next: usize) -> (Ahead, usize)
         Symbol::And => Ahead::Word(Word::And),
         Symbol::Or => Ahead::Word(Word::Or),
         Symbol::Closing => Ahead::Closing,
-        _ => Ahead::Other,
+        Symbol::Leaf(_) => Ahead::Leaf,
+        Symbol::Not => Ahead::Not,
+        Symbol::Opening => Ahead::Opening,
+        Symbol::Unreadable => Ahead::Unreadable,
     };
     (ahead, past)
 }

@@ -49,13 +49,13 @@ after q k = symbols (columns_of q) (drop k q.text.now)
 -- what a symbol is to a filter that ends before it
 abbrev pub ahead_of : declared-symbol.Symbol → Ahead
 ahead_of symbol.End = ahead.End
-ahead_of (symbol.Leaf leaf) = ahead.Other
+ahead_of (symbol.Leaf leaf) = ahead.Leaf
 ahead_of symbol.And = ahead.Word And
 ahead_of symbol.Or = ahead.Word Or
-ahead_of symbol.Not = ahead.Other
-ahead_of symbol.Opening = ahead.Other
+ahead_of symbol.Not = ahead.Not
+ahead_of symbol.Opening = ahead.Opening
 ahead_of symbol.Closing = ahead.Closing
-ahead_of symbol.Unreadable = ahead.Other
+ahead_of symbol.Unreadable = ahead.Unreadable
 
 -- the symbol of the text s at `next` is `ahead`, and the text after it begins at `past`
 pub record Seen (cs : List Column) (s : List ℕ) (next : ℕ) (ahead : Ahead) (past : ℕ) : Type 0 where
