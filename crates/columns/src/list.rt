@@ -6,26 +6,13 @@ ghost use Rattle.sheet.specs.Records.{record_size};
 ghost use Rattle.columns.specs.Columns.{plain_head, column, columns};
 ghost use Rattle.columns.specs.code.ColumnAnswers.{name_of, good, entries_in, columns_in, column_at, fields_of, place_of};
 
-use crate::name::{NAME_SIZE, is_name, letters};
+use crate::name::{ENTRY_SIZE, Entry, NAME_SIZE, is_name, name_of};
 use sheet::head::{Fields, read_fields};
-use sheet::records::RECORD_SIZE;
 use values::error::ErrorKind;
 use values::words::u16_at;
 
-// The size of an entry, which is a name and a head, in bytes.
-const ENTRY_SIZE: usize = NAME_SIZE + RECORD_SIZE;
-
-type Entry = [u8; ENTRY_SIZE];
-
 // The most columns of a list.
-const COLUMN_LIMIT: usize = 8;
-
-#[tactic(auto, unfolding(crate::specs::code::ColumnAnswers::name_of))]
-fn name_of(entry: &Entry) -> &[u8]
-    ensures { result.now ≡ name_of entry.now }
-{
-    letters(&entry[..NAME_SIZE])
-}
+pub const COLUMN_LIMIT: usize = 8;
 
 // Whether a head is that of a column.
 fn is_plain(head: &[u8]) -> bool
@@ -125,5 +112,16 @@ impl<'a> Columns<'a> {
     {
         let entry = &self.entries()[k];
         read_fields(&entry[NAME_SIZE..]).unwrap()
+    }
+}
+
+// How many columns a list has; none where it is broken.
+#[tactic(auto, unfolding(crate::specs::code::ColumnAnswers::columns_in))]
+pub fn count_columns(c: &[u8]) -> usize
+    ensures { result ≡ length (columns_in c.now) }
+{
+    match Columns::read(c) {
+        Ok(columns) => columns.count(),
+        Err(_) => 0,
     }
 }
