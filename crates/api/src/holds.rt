@@ -13,5 +13,5 @@ pub fn holds(sheet: &[u8], value: &[u8]) -> Result<bool, ErrorKind>
 {
     let mut records = [0; HOLDS_LIMIT];
     let x = read_sheet(sheet, HOLDS_LIMIT, &mut records)?;
-    test_value(x, value)
+    test_value(x.operator, x.literals, value)
 }

@@ -1,4 +1,5 @@
 -- The laws about the definitions of `meets`, and about equal byte strings.
 pub mod TestedLaws
+pub mod HeldLaws
 pub mod LeafLaws
 pub mod EqualBytesLaws

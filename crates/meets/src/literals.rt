@@ -2,14 +2,12 @@
 ghost use Rattle.std.specs.Prelude.{◌≡◌};
 ghost use Rattle.values.specs.Ascending.{elem};
 ghost use Rattle.values.specs.Order.{compare_numbers, compare_bytes};
-ghost use Rattle.expr.specs.Holds.{number_tests, bytes_tests, present_meets};
 ghost use Rattle.sheet.specs.code.SheetAnswers.{contents_of, numbers_of};
-ghost use Rattle.meets.specs.code.Leaves.{number_leaf, content_leaf};
+ghost use Rattle.meets.specs.code.HeldAnswers.{number_meets, bytes_meets};
 
 use expr::operator::PredicateOperator;
 use expr::test::{bytes_meets, number_meets};
 use sheet::literals::Literals;
-use sheet::sheet::Sheet;
 
 // Whether a number equals one of the literals. Numbers and byte strings are tested apart: a trait of both would take more lines than the two loops and the two
 // matches that it would spare.
@@ -38,28 +36,28 @@ pub fn bytes_among(literals: Literals, v: &[u8]) -> bool
     false
 }
 
-// Whether a present number meets a sheet's operator with its literals.
-pub fn number_holds(x: &Sheet, v: i64) -> bool
-    ensures { result ≡ present_meets number_tests (number_leaf x.now) v }
+// Whether a present number meets an operator with those literals; one that takes one literal is met by none without any.
+pub fn number_holds(operator: PredicateOperator, literals: Literals, v: i64) -> bool
+    ensures { result ≡ number_meets operator literals.entry v }
 {
-    match x.operator {
+    match operator {
         PredicateOperator::IsNull | PredicateOperator::IsNan => false,
         PredicateOperator::NotNull | PredicateOperator::NotNan => true,
-        PredicateOperator::In => number_among(x.literals, v),
-        PredicateOperator::NotIn => !number_among(x.literals, v),
-        _ => number_meets(x.operator, v, x.literals.number(0)),
+        PredicateOperator::In => number_among(literals, v),
+        PredicateOperator::NotIn => !number_among(literals, v),
+        _ => literals.len() != 0 && number_meets(operator, v, literals.number(0)),
     }
 }
 
-// Whether a present byte string meets a sheet's operator with its literals.
-pub fn bytes_holds(x: &Sheet, v: &[u8]) -> bool
-    ensures { result ≡ present_meets bytes_tests (content_leaf x.now) v.now }
+// The same for a byte string.
+pub fn bytes_holds(operator: PredicateOperator, literals: Literals, v: &[u8]) -> bool
+    ensures { result ≡ bytes_meets operator literals.entry v.now }
 {
-    match x.operator {
+    match operator {
         PredicateOperator::IsNull | PredicateOperator::IsNan => false,
         PredicateOperator::NotNull | PredicateOperator::NotNan => true,
-        PredicateOperator::In => bytes_among(x.literals, v),
-        PredicateOperator::NotIn => !bytes_among(x.literals, v),
-        _ => bytes_meets(x.operator, v, x.literals.content(0)),
+        PredicateOperator::In => bytes_among(literals, v),
+        PredicateOperator::NotIn => !bytes_among(literals, v),
+        _ => literals.len() != 0 && bytes_meets(operator, v, literals.content(0)),
     }
 }

@@ -33,7 +33,7 @@ module _ (x : Sheet) (row : Row (List ℕ)) where
       (holds bytes_tests x.leaf row)
 
 -- no String has a layout of numbers
-not_string : (column : PrimitiveType) (n : ℕ) → layout column ≡ number n → same_type column String ≡ false
+pub not_string : (column : PrimitiveType) (n : ℕ) → layout column ≡ number n → same_type column String ≡ false
 not_string Int n e = refl
 not_string Long n e = refl
 not_string Date n e = refl

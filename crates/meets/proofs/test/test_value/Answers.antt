@@ -7,4 +7,4 @@ use Rattle.meets.proofs.test.test_value.Goals as goal
 
 pub test_row-requires : goal.test_row-requires
 test_row-requires c =
-    (value_read c.args.x.literals.column c.args.v.now (option_copied c.in_ok-row.row) (sym c.read_value.ensures ∙ ap lent_value c.in_ok-row.was)).fit
+    (value_read c.args.literals.column c.args.v.now (option_copied c.in_ok-row.row) (sym c.read_value.ensures ∙ ap lent_value c.in_ok-row.was)).fit
