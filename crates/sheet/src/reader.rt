@@ -11,7 +11,7 @@ use crate::records::RECORD_SIZE;
 use crate::sheet::{Sheet, takes_count};
 use values::error::ErrorKind;
 
-// A sheet with at most so many literals; the numbers of their records go into `records`, in the order of the chain.
+// A sheet with at most so many literals; the numbers of their records go into `records`, from its start on, in the order of the chain.
 // Inlined where it is called: a sheet is many fields, which a Result hands on through memory.
 #[inline(always)]
 pub fn read_sheet<'a>(
@@ -23,6 +23,7 @@ pub fn read_sheet<'a>(
     requires records_len { length records.old ≡ holds_limit }
     ensures told { sheet_told result ≡ sheets.sheet most s.now }
     ensures lies { IfOk result (λ x. x.literals.sheet.now ≡ s.now) }
+    ensures place { IfOk result (λ x. x.literals.records.ref_ptr ≡ records.entry.ref_ptr) }
 {
     let size = s.len();
     if size == 0 {

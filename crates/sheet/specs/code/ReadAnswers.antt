@@ -2,12 +2,14 @@
 use Rattle.std.specs.Prelude.{ℕ, suc, ◌+◌, ◌*◌, ◌≤◌, ◌<◌, Bool, true, false, cond, ◌&&◌, List, [], ◌∷◌, map, ◌≡◌, ◌==◌, nat_lt, length, get_or, take, Ok, Err, Option, Some, None, ◌++◌}
 use Rattle.values.specs.Numbered.{find}
 use Rattle.values.specs.Outcomes.{Res, need, ◌>>=◌, ◌>>◌}
-use Rattle.values.specs.Types.{Layout, content_size}
+use Rattle.values.specs.Types.{Layout, layout, content_size}
 use Rattle.values.specs.Words.{field, word}
 use Rattle.values.specs.declared.error.ErrorKind.TheVariants.{Malformed}
 use Rattle.expr.specs.Operators.{operators, holds_limit}
+use Rattle.expr.specs.Predicates.{literals_in}
 use Rattle.sheet.specs.Records.{header_size, record_size, record_count, record_at, next_in, content}
 use Rattle.sheet.specs.Sheets as sheets
+use Rattle.sheet.specs.code.Placed.{content_at, LiteralAt}
 use Rattle.sheet.specs.declared.head.Fields.{Fields}
 use Rattle.sheet.specs.declared.head.Head.{Head}
 
@@ -78,6 +80,11 @@ counted (Err e) = broken_chain
 pub record Stored (filled : ℕ) (found : Res (List ℕ)) (before after : List ℕ) : Type 0 where
   pub stored : (ns : List ℕ) → found ≡ Ok ns → take (filled + length ns) after ≡ take filled before ++ ns
   pub kept : length after ≡ length before
+
+-- the literals of a sheet that was read are the contents of the first records
+pub record LiteralsRead (s records : List ℕ) (x : sheets.Sheet) : Type 0 where
+  pub literals : literals_in x.leaf ≡ map (content_at s) (take (length (literals_in x.leaf)) records)
+  pub each : (i : ℕ) → i < length (literals_in x.leaf) → LiteralAt (layout x.head.column) s (get_or records i 0)
 
 -- ---- the head
 

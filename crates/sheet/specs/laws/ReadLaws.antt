@@ -1,17 +1,17 @@
 -- What reading a leaf's literals and a row's value comes to: numbers are always read, and of a String all must be UTF-8. Assumes nothing.
 use Rattle.std.specs.Prelude.{ℕ, zero, suc, Bool, true, false, not, ◌&&◌, ◌||◌, List, [], ◌∷◌, map, ◌≡◌, refl, length, take, Ok}
-use Rattle.std.proofs.Common.{arith, ap₂, ◌∙◌, length-take-le, eqb-true}
+use Rattle.std.proofs.Common.{arith, sym, ap, ap₂, ◌∙◌, length-take-le, eqb-true}
 use Rattle.std.proofs.Math.Bool.{or-true, and-true}
 use Rattle.std.proofs.lemmas.List.{length-map}
 use Rattle.values.specs.Outcomes.{Res, need, each, ◌>>=◌, ◌>>◌, Row, missing, present}
-use Rattle.values.specs.Types.{Layout, number, bytes, same_type}
+use Rattle.values.specs.Types.{Layout, number, bytes, layout, same_type}
 use Rattle.values.specs.Utf8.{utf8}
 use Rattle.values.specs.Words.{le_number, signed}
 use Rattle.values.specs.declared.datatypes.PrimitiveType.{PrimitiveType}
 use Rattle.values.specs.declared.datatypes.PrimitiveType.TheVariants.{String}
 use Rattle.values.specs.declared.error.ErrorKind.{ErrorKind}
 use Rattle.values.specs.declared.error.ErrorKind.TheVariants.{NotUtf8}
-use Rattle.expr.specs.Operators.{Operator, none, one, many}
+use Rattle.expr.specs.Operators.{Operator, none, one, many, by_arity}
 use Rattle.expr.specs.code.OperatorAnswers.{takes, leaf_of}
 use Rattle.expr.specs.laws.PredicateLaws.{leaf_literals}
 use Rattle.expr.specs.Predicates.{Predicate, unary, test, binary, set, operator_in, literals_in}
@@ -19,7 +19,10 @@ use Rattle.sheet.specs.Values.{read_number, read_bytes, each_literal, read_row, 
 use Rattle.sheet.specs.code.Contents.{all_utf8, row_utf8, number_in}
 use Rattle.sheet.specs.laws.PartLaws.{number_of_content}
 use Rattle.sheet.specs.code.Placed.{content_at, number_at, LiteralAt, Placed, contents_at, numbers_at}
+use Rattle.sheet.specs.code.ReadAnswers.{LiteralsRead}
+use Rattle.sheet.specs.code.SheetAnswers.{sheet_of}
 use Rattle.sheet.specs.Records.{length_in, record_at}
+use Rattle.sheet.specs.declared.sheet.Sheet.{Sheet}
 
 -- ---- reading that never refuses: numbers
 module _ {A B : Type 0} (f : A → B) where
@@ -126,3 +129,15 @@ length_placed l s ns count placed = length-map (take count ns) (content_at s) �
 pub literals_taken : (l : Layout) (s ns : List ℕ) (count : ℕ) (o : Operator) → Placed l s ns count → takes o count ≡ true
     → literals_in (leaf_of [] o (contents_at s ns count)) ≡ contents_at s ns count
 literals_taken l s ns count o placed h = leaf_literals [] o (contents_at s ns count) (rw (length_placed l s ns count placed) h)
+
+-- the records whose numbers a sheet that was read has hold its literals, in their order
+pub literals_named : (x : Sheet) → LiteralsRead x.literals.sheet.now x.literals.records.now (sheet_of x)
+literals_named x =
+    let y = x.literals in
+    let n = length y.records.now in
+    let are = literals_taken (layout y.column) y.sheet.now y.records.now n (by_arity x.operator) y.placed x.taken in
+    let many = ap length are ∙ length_placed (layout y.column) y.sheet.now y.records.now n y.placed in
+    record {
+      literals = are ∙ ap (λ k. map (content_at y.sheet.now) (take k y.records.now)) (sym many);
+      each = λ i h. y.placed.each i (omega (arith, h, many));
+    }
