@@ -1,9 +1,9 @@
 -- Where the ends of a file stand in the bytes of its summary, and the number that a literal's record holds. Assumes nothing.
 use Rattle.std.specs.Prelude.{ℕ, ◌+◌, ◌*◌, ◌≤◌, Bool, true, false, List, ◌≡◌, refl, length, Ok}
-use Rattle.std.proofs.Common.{arith, ap, ap₂, ◌∙◌, eqb-true}
+use Rattle.std.proofs.Common.{arith, sym, ap, ap₂, ◌∙◌, eqb-true}
 use Rattle.std.proofs.lemmas.Bool.{false≢true}
 use Rattle.values.specs.Numbered.{find}
-use Rattle.values.specs.Outcomes.{present}
+use Rattle.values.specs.Outcomes.{Res, present}
 use Rattle.values.specs.laws.TypesLaws.{type_found}
 use Rattle.values.specs.Types.{Layout, number, types, layout}
 use Rattle.values.specs.Words.{word}
@@ -14,6 +14,8 @@ use Rattle.sheet.specs.code.Placed.{content_at, number_at, LiteralAt}
 use Rattle.sheet.specs.laws.PartLaws.{number_of_content}
 use Rattle.sheet.specs.laws.RecordLaws.{fits_room, content_read, value_read}
 use Rattle.summary.specs.Summaries.{Ends, none_present, ◌to◌, some_present, Summary, type_at, summary_size, summary}
+use Rattle.summary.specs.code.SummaryAnswers.{ends_in, summary_of, summary_told}
+use Rattle.summary.specs.declared.summary.Summary as code
 use Rattle.summary.specs.laws.SummaryBytesLaws.{low_of, high_of, summary_parts, word_of_one}
 
 -- the ends are the contents of the first two records
@@ -63,6 +65,19 @@ summary_read f y e =
     let here = found y.column f p.sized y.ends p.lowest p.highest in
     let typed = ap (find types) (word_of_one p.type_is) ∙ type_found y.column in
     record { sized = p.sized; typed = typed; ends_are = here.found_are; there = here.found_there }
+
+-- ---- the code's summary
+pub record SummaryTold (f : List ℕ) (x : code.Summary) : Type 0 where
+  pub is : summary f ≡ Ok (summary_of x)
+  pub ends_are : ends_in x.ends ≡ ends_at (some_present (ends_in x.ends)) f
+  pub there : some_present (ends_in x.ends) ≡ true → EndsThere (layout x.column) f
+
+-- what was read is the definition's summary, and its two ends lie in the first two records
+pub ends_lie : (f : List ℕ) {r : Res code.Summary} {x : code.Summary} → summary_told r ≡ summary f → r ≡ Ok x → SummaryTold f x
+ends_lie f {x = x} told is =
+    let read : summary f ≡ Ok (summary_of x) = sym told ∙ ap summary_told is in
+    let s = summary_read f (summary_of x) read in
+    record { is = read; ends_are = s.ends_are; there = s.there }
 
 -- ---- the number that an end is
 module _ (column : PrimitiveType) (n : ℕ) (is : layout column ≡ number n) where
