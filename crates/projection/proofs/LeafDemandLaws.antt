@@ -1,5 +1,5 @@
 -- Demand 3 over leaves, of every type, transform and width. Assumes nothing.
-use Rattle.std.specs.Prelude.{ℕ, Bool, true, false, cond, not, ◌||◌, List, ◌≡◌, ℤ, length, ◌≤ℤ◌, Ok}
+use Rattle.std.specs.Prelude.{ℕ, ◌≤◌, Bool, true, false, cond, not, ◌||◌, List, ◌≡◌, ℤ, length, ◌≤ℤ◌, Ok}
 use Rattle.std.proofs.Common.{⊎_elim, sym, ap, ◌∙◌}
 use Rattle.values.specs.code.Places.{AllOf}
 use Rattle.values.specs.Outcomes.{Res, Row, missing, present}
@@ -134,6 +134,10 @@ bytes_cutting column w = go (same_type column String)
         → Cutting (λ s. (not b || utf8 s) ≡ true) (λ s. cond b (length (code_points s)) (length s)) w (λ s. cond b (first_code_points w s) (first_bytes w s))
     go true = string_cutting w
     go false = binary_cutting w
+
+-- a literal no longer than the width stays whole
+pub whole_stays : (column : PrimitiveType) (w : ℕ) (l : List ℕ) → length_of column l ≤ w → truncate_bytes column w l ≡ l
+whole_stays column w l h = (bytes_cutting column w).whole l h
 
 truncated_value : (question : Question) (column : PrimitiveType) (w : ℕ) (x q : Test (List ℕ)) → AllOf (HeldIn column) (literals_in (test x))
     → bytes_step column (Truncate w) question x ≡ Ok (some q)

@@ -3,7 +3,9 @@ use Rattle.std.specs.Prelude.{◌≡◌, ℕ, suc, ◌-◌, ◌^◌, ◌<◌, Bo
 use Rattle.std.proofs.Common.{arith, ap, lit<, ltb-true, ltb-false, lt-ltb, le-ltb}
 use Rattle.std.proofs.Math.Nat.{one-le-pow}
 use Rattle.std.specs.Int.Signed.{mag}
-use Rattle.values.specs.laws.RangeLaws.{in_range_mag}
+use Rattle.std.specs.Int.{Width}
+use mir.Val.{to_z, sel, bits, hbits}
+use Rattle.values.specs.laws.RangeLaws.{Wide, in_range_mag}
 use Rattle.values.specs.Types.{half, in_range}
 use Rattle.values.specs.Words.{AllBytes, le_number, signed, unsigned, signed_bytes}
 use Rattle.values.specs.laws.WordLaws.{number_bytes_lem, bytes_number, number_below, half_twice, unsigned_below}
@@ -44,3 +46,12 @@ pub bytes_signed : (n : ℕ) (bs : List ℕ) → length bs ≡ n → AllBytes bs
 bytes_signed n bs e h =
     let below : le_number bs < 256 ^ n = rw e at (number_below bs h) in
     rw (unsigned_signed n (le_number bs) below, ← e) (bytes_number bs h)
+
+-- ---- the machine's two's complement
+module _ {n : ℕ} {w : Width} (wide : Wide n w) where
+  pub signed_to_z : (u : ℕ) → signed n u ≡ to_z w u
+  signed_to_z u = rw (wide.halves, wide.count) (go (nat_lt u (2 ^ hbits w)))
+    where
+      go : (t : Bool) → cond t (pos u) (negsuc (2 ^ bits w - suc u)) ≡ sel t (pos u) (negsuc (2 ^ bits w - suc u))
+      go true = refl
+      go false = refl
