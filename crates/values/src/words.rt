@@ -92,5 +92,5 @@ pub fn put_i64(d: &mut [u8], at: usize, z: i64)
     requires { at + 8 ≤ length d.old }
     ensures { d.new ≡ over at (signed_bytes 8 z) d.old }
 {
-    put_u64(d, at, z.cast_unsigned());
+    put_u64(d, at, bits_of(z));
 }

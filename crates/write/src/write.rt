@@ -2,7 +2,7 @@
 ghost use Rattle.std.specs.Prelude.{true, ◌++◌, ◌≡◌, ◌+◌, ◌*◌, ◌≤◌, ◌<◌, length, drop, replicate};
 ghost use Rattle.values.specs.Outcomes.{missing};
 ghost use Rattle.values.specs.Types.{content_size, layout, type_number, in_type};
-ghost use Rattle.values.specs.Words.{over, le_bytes};
+ghost use Rattle.values.specs.Words.{over, le_bytes, signed_bytes};
 ghost use Rattle.expr.specs.Operators.{operator_number};
 ghost use Rattle.sheet.specs.Records.{header_size, record_size};
 ghost use Rattle.write.specs.Written.{head_record, literal_record, value_record, number_bytes};
@@ -10,10 +10,10 @@ ghost use Rattle.write.specs.Written.{head_record, literal_record, value_record,
 use expr::operator::PredicateOperator;
 use sheet::records::{CONTENT_SIZE, HEADER_SIZE, MISSING_MARK, RECORD_SIZE};
 use values::datatypes::PrimitiveType;
-use values::words::{put_u16, put_u32, put_u64, u16_at, u32_at, u64_at};
+use values::words::{put_i32, put_i64, put_u16, put_u32, put_u64, u16_at, u32_at, u64_at};
 
 // n zeros from index `at` on.
-fn put_zeros(d: &mut [u8], at: usize, n: usize)
+pub fn put_zeros(d: &mut [u8], at: usize, n: usize)
     requires { at + n ≤ length d.old }
     ensures { d.new ≡ over at (replicate n 0) d.old }
 {
@@ -42,8 +42,7 @@ fn put_few_bytes(d: &mut [u8], at: usize, bs: &[u8], from: usize)
 }
 
 // Bytes from index `at` on: eight at a time while eight are left, then the few that are left. The library for C needs nothing from outside but `memset`, and
-// `copy_from_slice` would need `memmove` too. Inlined, so that a number is one store.
-#[inline(always)]
+// `copy_from_slice` would need `memmove` too.
 pub fn put_bytes(d: &mut [u8], at: usize, bs: &[u8])
     requires { at + length bs.now ≤ length d.old }
     ensures { d.new ≡ over at bs.now d.old }
@@ -75,8 +74,7 @@ pub fn put_head(d: &mut [u8], next: u16, operator: PredicateOperator, column: Pr
     put_zeros(d, 5, RECORD_SIZE - 5);
 }
 
-// A byte string as record k, over zeros. Inlined, so that the length of a number is known where it is copied.
-#[inline(always)]
+// A byte string as record k, over zeros.
 #[tactic(auto, using(crate::specs::laws::WriteLaws::literal_writes))]
 pub fn put_string(d: &mut [u8], k: usize, next: u16, bs: &[u8])
     requires k_in_bounds { record_size * (k + 1) ≤ length d.old }
@@ -89,6 +87,28 @@ pub fn put_string(d: &mut [u8], k: usize, next: u16, bs: &[u8])
     put_bytes(d, at + HEADER_SIZE, bs);
 }
 
+// A number of four bytes as record k, over zeros.
+fn put_int(d: &mut [u8], k: usize, next: u16, v: i32)
+    requires { record_size * (k + 1) ≤ length d.old }
+    ensures { d.new ≡ over (record_size * k) (literal_record next (signed_bytes 4 v)) d.old }
+{
+    let at = RECORD_SIZE * k;
+    put_header(d, at, next, 4);
+    put_zeros(d, at + HEADER_SIZE, CONTENT_SIZE);
+    put_i32(d, at + HEADER_SIZE, v);
+}
+
+// A number of eight bytes as record k, over zeros.
+fn put_long(d: &mut [u8], k: usize, next: u16, v: i64)
+    requires { record_size * (k + 1) ≤ length d.old }
+    ensures { d.new ≡ over (record_size * k) (literal_record next (signed_bytes 8 v)) d.old }
+{
+    let at = RECORD_SIZE * k;
+    put_header(d, at, next, 8);
+    put_zeros(d, at + HEADER_SIZE, CONTENT_SIZE);
+    put_i64(d, at + HEADER_SIZE, v);
+}
+
 // A number of a column's type as record k.
 pub fn put_number(d: &mut [u8], k: usize, next: u16, column: PrimitiveType, v: i64)
     requires k_in_bounds { record_size * (k + 1) ≤ length d.old }
@@ -96,10 +116,8 @@ pub fn put_number(d: &mut [u8], k: usize, next: u16, column: PrimitiveType, v: i
     ensures { d.new ≡ over (record_size * k) (literal_record next (number_bytes (layout column) v)) d.old }
 {
     match column {
-        PrimitiveType::Int | PrimitiveType::Date => {
-            put_string(d, k, next, &(v as i32).to_le_bytes())
-        }
-        _ => put_string(d, k, next, &v.to_le_bytes()),
+        PrimitiveType::Int | PrimitiveType::Date => put_int(d, k, next, v as i32),
+        _ => put_long(d, k, next, v),
     }
 }
 
