@@ -4,7 +4,7 @@ ghost use Rattle.arrayvec.specs.ArrayVec.{Extends};
 ghost use Rattle.text.specs.code.Room.{HasRoom};
 ghost use Rattle.text.specs.Text.{digit, hexadecimal};
 
-use crate::output::Output;
+use arrayvec::ArrayVec;
 
 // The character of a digit.
 pub fn digit_of(v: u8) -> u8
@@ -15,8 +15,8 @@ pub fn digit_of(v: u8) -> u8
 }
 
 // Writes a byte string. `hex` writes to a buffer of just the text's length, which would be no plainer than two digits for each byte.
-pub fn put_hexadecimal(out: &mut Output, bs: &[u8])
-    requires { HasRoom out.old (hexadecimal bs.now) }
+pub fn put_hexadecimal<const N: usize>(out: &mut ArrayVec<u8, N>, bs: &[u8])
+    requires { HasRoom N out.old (hexadecimal bs.now) }
     ensures { Extends out.old (hexadecimal bs.now) out.new }
 {
     if bs.is_empty() {

@@ -1,6 +1,7 @@
 // What program `weighpick` prints.
 #![tactic(auto)]
 
+pub mod decimal;
 pub mod hexadecimal;
 pub mod line;
 pub mod output;

@@ -3,7 +3,7 @@ ghost use Rattle.std.specs.Prelude.{◌≡◌};
 ghost use Rattle.text.specs.Program.{printed};
 
 use crate::line::put_line;
-use crate::output::Output;
+pub use crate::output::{OUTPUT_SIZE, Output};
 use answers::answer::{answer_count, answer_number};
 use api::project::{SHEET_BUFFER, project, strict_project};
 use sheet::records::{PROJECT_RECORDS, RECORD_SIZE};

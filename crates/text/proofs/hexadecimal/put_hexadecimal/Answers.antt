@@ -8,13 +8,13 @@ two_left : (bs : List ℕ) (i : ℕ) → i < length bs → 2 ≤ length (hex_dig
 two_left bs i h = rw (drop-cons bs i 0 h) (omega arith)
 
 pub push-requires-in-loop-b : goal.push-requires-in-loop-b
-push-requires-in-loop-b c =
+push-requires-in-loop-b g c =
     let more = two_left c.args.bs.now c.loop-b.b-index c.loop-b-test.true in
     let all = ap length c.loop-b.invariant in
     (omega arith, omega (arith, length-append {A = ℕ}, all, more, c.requires))
 
 pub push-requires-in-loop-b-2 : goal.push-requires-in-loop-b-2
-push-requires-in-loop-b-2 c =
+push-requires-in-loop-b-2 g c =
     let more = two_left c.args.bs.now c.loop-b.b-index c.loop-b-test.true in
     let all = ap length c.loop-b.invariant in
     (omega arith, omega (arith, length-append {A = ℕ}, all, more, c.requires, c.push-in-loop-b.ensures.len))

@@ -4,4 +4,4 @@ use Rattle.text.specs.Text.{hex_digits, hexadecimal}
 use Rattle.text.proofs.hexadecimal.put_hexadecimal.Given as goal
 
 abbrev pub invariant-loop-b : goal.invariant-loop-b
-invariant-loop-b l = l.out.items ++ hex_digits (drop l.b-index l.bs) ≡ l.fn.out.items ++ hexadecimal l.bs
+invariant-loop-b g l = l.out.items ++ hex_digits (drop l.b-index l.bs) ≡ l.fn.out.items ++ hexadecimal l.bs

@@ -15,13 +15,13 @@ next_left l s ns i h =
     rw next (omega (arith, length-append {A = ℕ}))
 
 pub push-requires : goal.push-requires
-push-requires c =
+push-requires g c =
     let x = c.args.literals in
     let more = next_left (layout x.column) x.sheet.now x.records.now c.loop-i.i (omega arith) in
     (omega arith, omega (arith, length-append {A = ℕ}, ap length c.loop-i.invariant, more, c.requires))
 
-pub put_literal-requires-clause-room : goal.put_literal-requires-clause-room
-put_literal-requires-clause-room c =
+pub put_literal-requires : goal.put_literal-requires
+put_literal-requires g c =
     let x = c.args.literals in
     let more = next_left (layout x.column) x.sheet.now x.records.now c.loop-i.i (omega arith) in
     omega (arith, length-append {A = ℕ}, ap length c.loop-i.invariant, more, c.requires, c.push.ensures.len)

@@ -8,6 +8,6 @@ use Rattle.text.specs.Text.{literals_text}
 use Rattle.text.proofs.line.put_literals.Given as goal
 
 abbrev pub invariant-loop-i : goal.invariant-loop-i
-invariant-loop-i l =
+invariant-loop-i g l =
     let x = l.literals in
     l.out.items ++ literals_text (layout x.column) (map (content_at x.sheet.now) (slice l.i (length x.records.now) x.records.now)) ≡ l.fn.out.items ++ literals_text (layout x.column) (contents_of x)

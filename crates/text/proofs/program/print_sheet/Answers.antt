@@ -5,7 +5,7 @@ use Rattle.projection.specs.declared.question.Question.TheVariants.{Inclusive, S
 use Rattle.write.specs.Written.{sheet_buffer}
 use Rattle.api.specs.Routines.{project_sheet}
 use Rattle.values.specs.Characters.{ascii}
-use lib.Dec.{lit≤}
+use lib.Dec.{lit≤, lit<}
 use Rattle.text.specs.Program.{output_size}
 use Rattle.text.proofs.ProgramReads.{Asked, line_half, line_is, both}
 use Rattle.text.proofs.program.print_sheet.Goals as goal
@@ -28,15 +28,19 @@ halves : {written n : ℕ} → written ≤ 2 * sheet_buffer → n ≤ 2 * sheet_
 halves h k = omega arith
 
 pub put_line-requires : goal.put_line-requires
-put_line-requires c =
-    halves (rw c.new-out.ensures (omega arith))
-    (line_half (inclusive_asked (goal.at.put_line-requires c).After-answer_count) _ _ (lit≤ tt) c.answer_number.ensures)
+put_line-requires c = (
+  lit< tt,
+  halves (rw c.new-out.ensures (omega arith))
+      (line_half (inclusive_asked (goal.at.put_line-requires c).After-answer_count) _ _ (lit≤ tt) c.answer_number.ensures),
+)
 
 pub put_line-requires-2 : goal.put_line-requires-2
 put_line-requires-2 c =
-    let written = rw c.new-out.ensures at c.put_line.ensures in
-    halves (rw written (line_half (inclusive_asked (goal.at.put_line-requires-2 c).After-answer_count) _ _ (lit≤ tt) c.answer_number.ensures))
-    (line_half (strict_asked (goal.at.put_line-requires-2 c).After-answer_count-2) _ _ (lit≤ tt) c.answer_number-2.ensures)
+    let written = rw c.new-out.ensures at c.put_line.ensures in (
+      lit< tt,
+      halves (rw written (line_half (inclusive_asked (goal.at.put_line-requires-2 c).After-answer_count) _ _ (lit≤ tt) c.answer_number.ensures))
+          (line_half (strict_asked (goal.at.put_line-requires-2 c).After-answer_count-2) _ _ (lit≤ tt) c.answer_number-2.ensures),
+    )
 
 pub returns : goal.returns
 returns c =
