@@ -2,6 +2,8 @@
 // and wrong.
 #![tactic(auto)]
 
+ghost use Rattle.std.specs.Prelude.{IfOk, ◌≤◌, length};
+
 use cases_judge::judge::{Case, Routine};
 use input::read_full;
 use std::io;
@@ -52,7 +54,9 @@ fn read_part<'a>(
     input: &mut impl Read,
     n: u16,
     buf: &'a mut [u8; PART_SIZE],
-) -> io::Result<&'a [u8]> {
+) -> io::Result<&'a [u8]>
+    ensures { IfOk result (λ part. length part.now ≤ n) }
+{
     let came = read_full(input, &mut buf[..n as usize])?;
     Ok(&buf[..came])
 }
