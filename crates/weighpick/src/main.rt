@@ -3,11 +3,13 @@
 
 use input::read_full;
 use std::io;
-use text::program::{INPUT_SIZE, print_sheet};
+use text::program::{INPUT_SIZE, Output, put_sheet};
 
 // An input that is longer than the buffer is cut, and answered 3 as all of it would be.
 fn main(rt: HostRuntime) -> io::Result<()> {
     let mut sheet = [0; INPUT_SIZE];
     let n = read_full(&mut rt.stdin(), &mut sheet)?;
-    rt.write_all(print_sheet(&sheet[..n]).as_slice())
+    let mut out = Output::new();
+    put_sheet(&mut out, &sheet[..n]);
+    rt.write_all(out.as_slice())
 }
