@@ -120,6 +120,8 @@ fn hour_number(column: PrimitiveType, v: i64) -> Result<Option<i64>, ErrorKind>
 }
 
 // A present number, transformed.
+// Inlined, since a Result of an Option is handed back through memory.
+#[inline(always)]
 #[tactic(auto, unfolding(crate::specs::Partition::transform_number))]
 pub fn transform_literal(
     column: PrimitiveType,

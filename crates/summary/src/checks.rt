@@ -25,6 +25,7 @@ pub fn ends_encoded(file: Summary) -> bool
 }
 
 // Whether the content a is below b, by the order of the values of their type.
+#[inline(always)]
 #[tactic(auto, using(crate::proofs::OrderedEnds::numbers_below, values::specs::laws::SignedLaws::back))]
 pub fn is_below(a: &[u8], b: &[u8], column: PrimitiveType) -> bool
     requires a_fits { fits (layout column) (length a.now) ≡ true }
@@ -43,6 +44,8 @@ pub fn is_below(a: &[u8], b: &[u8], column: PrimitiveType) -> bool
 pub fn ends_ordered(file: Summary) -> bool
     ensures { result ≡ ordered (compare_in file.entry.column) (ends_in file.entry.ends) }
 {
-    file.ends
-        .is_none_or(|ends| !is_below(ends.highest, ends.lowest, file.column))
+    match file.ends {
+        Some(ends) => !is_below(ends.highest, ends.lowest, file.column),
+        None => true,
+    }
 }

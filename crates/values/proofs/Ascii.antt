@@ -25,6 +25,9 @@ ascii_first : (b : ℕ) (s : List ℕ) → b < 128 → utf8 (b ∷ s) ≡ utf8 s
 unfolding after
 ascii_first b s h = first_follows 0x00 0x7F b (omega arith) (omega arith) _ refl refl s
 
+pub ascii_byte : (at : ℕ) (s : List ℕ) → at < length s → get_or s at 0 < 128 → utf8 (drop (suc at) s) ≡ utf8 (drop at s)
+ascii_byte at s inside h = sym (ap utf8 (drop-cons s at 0 inside) ∙ ascii_first (get_or s at 0) (drop (suc at) s) h)
+
 -- n bytes without their highest bit may be left out at the start
 ascii_bytes : (n at : ℕ) (s : List ℕ) → AllBytes s → at + n ≤ length s → bit_and (word at n s) (high_bits n) ≡ 0
     → utf8 (drop (at + n) s) ≡ utf8 (drop at s)
@@ -35,7 +38,7 @@ ascii_bytes (suc n) at s h k e =
     let next : suc at + n ≡ at + suc n = omega arith in
     ap (λ (i : ℕ). utf8 (drop i s)) (sym next)
     ∙ ascii_bytes n (suc at) s h (omega arith) c.1
-    ∙ sym (ap utf8 (drop-cons s at 0 (omega arith)) ∙ ascii_first b (drop (suc at) s) c.0)
+    ∙ ascii_byte at s (omega arith) c.0
 
 pub ascii_word : (i : ℕ) (s : List ℕ) → AllBytes s → 8 * i + 8 ≤ length s → bit_and (word (8 * i) 8 s) 0x8080808080808080 ≡ 0
     → utf8 (drop (8 * (i + 1)) s) ≡ utf8 (drop (8 * i) s)

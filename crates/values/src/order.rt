@@ -4,12 +4,15 @@ ghost use Rattle.values.specs.Order.{compare_bytes, is_less, starts_with};
 
 use std::cmp::Ordering;
 
-// By byte; a shorter beginning of the other is the lower.
+// By byte; a shorter beginning of the other is the lower. First bytes tell most apart, and are asked here, where that costs no call.
 #[inline(always)]
 #[tactic(auto, using(crate::specs::laws::ByteOrderLaws::slices_compare))]
 pub fn compare_bytes(a: &[u8], b: &[u8]) -> Ordering
     ensures { result ≡ compare_bytes a.now b.now }
 {
+    if !a.is_empty() && !b.is_empty() && a[0] != b[0] {
+        return a[0].cmp(&b[0]);
+    }
     a.cmp(b)
 }
 

@@ -97,12 +97,26 @@ fn ascii_words(s: &[u8]) -> usize
     s.len() / 8 * 8
 }
 
-// Whether bytes are UTF-8: read code point by code point after the words that are ASCII.
+// How many bytes from the start on are ASCII, the first of them counted in eights.
+#[inline(always)]
+fn ascii_bytes(s: &[u8]) -> usize
+    ensures upper_bound { result ≤ length s.now }
+    ensures s_value { utf8 (drop result s.now) ≡ utf8 s.now }
+{
+    let mut n = ascii_words(s);
+    while n < s.len() && s[n] < 0x80 {
+        n += 1;
+    }
+    n
+}
+
+// Whether bytes are UTF-8: read code point by code point.
+#[inline(never)]
 #[tactic(auto, using(crate::specs::laws::Utf8StepLaws::nothing_left))]
-pub fn is_utf8(s: &[u8]) -> bool
+fn are_code_points(s: &[u8]) -> bool
     ensures { result ≡ utf8 s.now }
 {
-    let mut rest = &s[ascii_words(s)..];
+    let mut rest = s;
     while let [first, later @ ..] = rest {
         let Some(next) = after_code_point(*first, later) else {
             return false;
@@ -110,6 +124,16 @@ pub fn is_utf8(s: &[u8]) -> bool
         rest = next;
     }
     true
+}
+
+// Whether bytes are UTF-8. What is ASCII, as most are, costs no call.
+#[inline(always)]
+#[tactic(auto, using(crate::specs::laws::Utf8StepLaws::nothing_left))]
+pub fn is_utf8(s: &[u8]) -> bool
+    ensures { result ≡ utf8 s.now }
+{
+    let n = ascii_bytes(s);
+    n == s.len() || are_code_points(&s[n..])
 }
 
 // How many bytes go on with no code point. A loop, since LLVM makes vector code of it, and none of `filter` with `count`.

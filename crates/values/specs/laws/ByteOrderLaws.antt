@@ -1,5 +1,5 @@
 -- The order and the beginnings of byte strings are those that the library has for slices. Assumes nothing.
-use Rattle.std.specs.Prelude.{◌≡◌, ℕ, Bool, true, false, cond, ◌&&◌, List, [], ◌∷◌, ◌==◌, nat_lt, nat_eq, refl}
+use Rattle.std.specs.Prelude.{◌≡◌, ◌≢◌, ◌<◌, ℕ, Bool, true, false, cond, ◌&&◌, List, [], ◌∷◌, ◌==◌, nat_lt, nat_eq, length, get_or, refl}
 use Rattle.std.proofs.Common.{arith, sym, ap₂, ◌∙◌, eqb-true, eq-eqb, ltb-true, ltb-false}
 use Rattle.std.specs.Ordering.{nat_cmp, ordering_then}
 use Rattle.std.specs.Cmp.Lexicographic.{slice_cmp}
@@ -33,6 +33,23 @@ slices_compare [] [] = refl
 slices_compare [] (y ∷ ys) = refl
 slices_compare (x ∷ xs) [] = refl
 slices_compare (x ∷ xs) (y ∷ ys) = first_then x y _ ∙ rw (slices_compare xs ys)
+
+-- first bytes that differ decide
+pub first_decides : (a b : List ℕ) → 0 < length a → 0 < length b → get_or a 0 0 ≢ get_or b 0 0 → nat_cmp (get_or a 0 0) (get_or b 0 0) ≡ compare_bytes a b
+unfolding compare_bytes
+first_decides [] b h k apart = absurd (omega arith)
+first_decides (x ∷ xs) [] h k apart = absurd (omega arith)
+first_decides (x ∷ xs) (y ∷ ys) h k apart = go (nat_lt x y) (x == y) (nat_lt y x) refl refl refl
+  where
+    go : (b c d : Bool) → nat_lt x y ≡ b → (x == y) ≡ c → nat_lt y x ≡ d
+        → cond b Less (cond c Equal Greater) ≡ cond b Less (cond d Greater (compare_bytes xs ys))
+    go true c d l e g = refl
+    go false true d l e g = absurd (apart (eqb-true x y e))
+    go false false true l e g = refl
+    go false false false l e g =
+        let low = ltb-false x y l in
+        let high = ltb-false y x g in
+        clash (eq-eqb x y (omega arith)) e
 
 same_byte : (x y : ℕ) → (x == y) ≡ (y == x)
 same_byte x y = go (x == y) (y == x) refl refl
