@@ -63,8 +63,8 @@ fn are_columns(entries: &[Entry]) -> bool
     true
 }
 
-// A list with a column for each of its entries. It need not have one: a broken list has no columns, as the empty list has none, which stands for it then, so that a
-// text is read beside a broken list too. That a list which was read has a column is what `read` says.
+// A list with a column for each of its entries, perhaps none: a broken list has no columns, so the empty list may be handed in for it, and a text is read beside it.
+// `read` says that what it gives has a column.
 #[derive(Clone, Copy)]
 pub struct Columns<'a> {
     pub list: &'a [u8],

@@ -4,6 +4,7 @@ ghost use Rattle.arrayvec.specs.ArrayVec.{Extends, array_vec_len};
 ghost use Rattle.text.specs.Program.{printed, output_size};
 
 use crate::line::put_line;
+// The program lends such a vector.
 pub use crate::output::{OUTPUT_SIZE, Output};
 use answers::answer::{answer_count, answer_number};
 use api::project::{SHEET_BUFFER, project, strict_project};
@@ -35,7 +36,7 @@ pub fn put_sheet<const N: usize>(out: &mut ArrayVec<u8, N>, sheet: &[u8])
     );
 }
 
-// Both lines for a sheet.
+// The same in a vector of its own.
 pub fn print_sheet(sheet: &[u8]) -> Output
     ensures { result.items ≡ printed sheet.now }
 {
