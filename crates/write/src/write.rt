@@ -42,7 +42,8 @@ fn put_few_bytes(d: &mut [u8], at: usize, bs: &[u8], from: usize)
 }
 
 // Bytes from index `at` on: eight at a time while eight are left, then the few that are left. The library for C needs nothing from outside but `memset`, and
-// `copy_from_slice` would need `memmove` too.
+// `copy_from_slice` would need `memmove` too. Inlined, as a number's record is.
+#[inline(always)]
 pub fn put_bytes(d: &mut [u8], at: usize, bs: &[u8])
     requires { at + length bs.now ≤ length d.old }
     ensures { d.new ≡ over at bs.now d.old }
@@ -75,6 +76,7 @@ pub fn put_head(d: &mut [u8], next: u16, operator: PredicateOperator, column: Pr
 }
 
 // A byte string as record k, over zeros.
+#[inline(always)]
 #[tactic(auto, using(crate::specs::laws::WriteLaws::literal_writes))]
 pub fn put_string(d: &mut [u8], k: usize, next: u16, bs: &[u8])
     requires k_in_bounds { record_size * (k + 1) ≤ length d.old }
@@ -88,6 +90,7 @@ pub fn put_string(d: &mut [u8], k: usize, next: u16, bs: &[u8])
 }
 
 // A number of four bytes as record k, over zeros.
+#[inline(always)]
 fn put_int(d: &mut [u8], k: usize, next: u16, v: i32)
     requires { record_size * (k + 1) ≤ length d.old }
     ensures { d.new ≡ over (record_size * k) (literal_record next (signed_bytes 4 v)) d.old }
@@ -99,6 +102,7 @@ fn put_int(d: &mut [u8], k: usize, next: u16, v: i32)
 }
 
 // A number of eight bytes as record k, over zeros.
+#[inline(always)]
 fn put_long(d: &mut [u8], k: usize, next: u16, v: i64)
     requires { record_size * (k + 1) ≤ length d.old }
     ensures { d.new ≡ over (record_size * k) (literal_record next (signed_bytes 8 v)) d.old }
