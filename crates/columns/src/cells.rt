@@ -42,9 +42,9 @@ impl<'a> Columns<'a> {
         }
     }
 
-    // Whether values are there, one a column: 3, then 4.
+    // Whether values are there, one a column: 3, then 4. Every list that was read has a column.
     #[tactic(auto, using(crate::proofs::CellReads::values))]
-    pub fn check_values(self, values: &[u8], side: Side) -> Result<(), ErrorKind>
+    pub fn check_cells(self, values: &[u8], side: Side) -> Result<(), ErrorKind>
         requires count_nonzero { 0 < length (columns_in self.list.now) }
         ensures { result ≡ without_value (cells_of (side_of side) self.entry.list.now values.now) }
     {
@@ -62,5 +62,50 @@ impl<'a> Columns<'a> {
         } else {
             Err(ErrorKind::NotUtf8)
         }
+    }
+
+    // The same of any list, of which nothing is asked: 3 where it has no column.
+    pub fn check_values(self, values: &[u8], side: Side) -> Result<(), ErrorKind>
+        ensures { result ≡ without_value (cells_of (side_of side) self.entry.list.now values.now) }
+    {
+        match self.count() {
+            0 => Err(ErrorKind::Malformed),
+            _ => self.check_cells(values, side),
+        }
+    }
+}
+
+#[cfg(test)]
+mod tests {
+    use super::*;
+    use crate::name::{ENTRY_SIZE, NAME_SIZE};
+
+    // One value of four bytes beside one column, by the number of its type and the first of the bytes.
+    fn check_one(column: u8, byte: u8) -> Result<(), ErrorKind> {
+        let mut list = [0; ENTRY_SIZE];
+        list[0] = b'a';
+        list[NAME_SIZE + 4] = column;
+        let mut value = [0; RECORD_SIZE];
+        value[2] = 4;
+        value[4] = byte;
+        Columns::read(&list)?.check_values(&value, Side::Rows)
+    }
+
+    // An Int, a String, one that is not UTF-8, and a Long, which four bytes are not.
+    #[test]
+    fn one_value(rt: HostRuntime) {
+        assert!(rt; check_one(1, b'a') == Ok(()));
+        assert!(rt; check_one(9, b'a') == Ok(()));
+        assert!(rt; check_one(9, 0xFF) == Err(ErrorKind::NotUtf8));
+        assert!(rt; check_one(2, b'a') == Err(ErrorKind::Malformed));
+    }
+
+    // The empty list stands for a broken one.
+    #[test]
+    #[tactic(auto, unfolding(crate::specs::code::ColumnAnswers::columns_in, crate::specs::Columns::columns))]
+    fn no_column(rt: HostRuntime) {
+        let none = Columns { list: &[] };
+        assert!(rt; none.check_values(&[], Side::Rows) == Err(ErrorKind::Malformed));
+        assert!(rt; none.check_values(&[0; RECORD_SIZE], Side::Parts) == Err(ErrorKind::Malformed));
     }
 }

@@ -52,7 +52,7 @@ fn filter(asked: Asked, columns: &[u8], text: &[u8], values: &[u8]) -> Result<bo
     ensures { result ≡ filter_answered asked columns.now text.now values.now }
 {
     let columns = Columns::read(columns)?;
-    columns.check_values(values, side_of(asked))?;
+    columns.check_cells(values, side_of(asked))?;
     answer_text(&Request {
         asked,
         columns,

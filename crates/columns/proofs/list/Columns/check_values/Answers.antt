@@ -1,19 +1,19 @@
--- `Columns::check_values` meets its contract: a value that is malformed is the answer, and any other leaves it to those after it. Assumes nothing.
-use Rattle.std.proofs.Common.{arith, rules, sym}
-use Rattle.columns.specs.code.ColumnAnswers.{side_of}
-use Rattle.columns.proofs.CellReads.{value_told}
+-- `Columns::check_values` meets its contract: a list without columns is broken. Assumes nothing.
+use Rattle.std.specs.Prelude.{ℕ, Bool, true, false, List, ◌≡◌, is_ok, Err}
+use Rattle.std.proofs.Common.{arith, refl}
+use Rattle.values.specs.declared.error.ErrorKind.TheVariants.{Malformed}
+use Rattle.columns.specs.Cells.{cells_of}
+use Rattle.columns.specs.Columns.{columns}
+use Rattle.columns.specs.laws.ColumnLaws.{columns_there, columns_broken}
 use Rattle.columns.proofs.list.Columns.check_values.Goals as goal
 
-pub returns-in_err-encoded : goal.returns-in_err-encoded
-returns-in_err-encoded c =
-    let here =
-    value_told (side_of c.args.side) c.args.self.list.now c.args.values.now c.as_chunks.ensures.front (omega arith)
-    c.loop-k.encoded c.loop-k.k c.loop-k-test.true c.type_at.ensures _ c.check_value.ensures in
-    rw (← c.loop-k.invariant, here, c.in_err-encoded.was) (search rules)
+pub returns-in-0 : goal.returns-in-0
+unfolding cells_of
+returns-in-0 c = rw (broken (is_ok (columns list)) refl) refl
+  where
+    list : List ℕ
+    list = c.args.self.list.now
 
-pub loop-k-preserved : goal.loop-k-preserved
-loop-k-preserved c =
-    let here =
-    value_told (side_of c.args.side) c.args.self.list.now c.args.values.now c.as_chunks.ensures.front (omega arith)
-    c.loop-k.encoded c.loop-k.k c.loop-k-test.true c.type_at.ensures _ c.check_value.ensures in
-    sym (rw (c.in_ok-encoded.was, c.loop-k.invariant) at here)
+    broken : (good : Bool) → is_ok (columns list) ≡ good → columns list ≡ Err Malformed
+    broken true is = absurd (omega (arith, columns_there list is, c.count.ensures, c.in-0.is))
+    broken false is = columns_broken list is

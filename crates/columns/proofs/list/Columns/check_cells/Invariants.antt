@@ -1,9 +1,9 @@
--- `Columns::check_values` meets its contract: the values from place k on settle the answer. Assumes nothing.
+-- `Columns::check_cells` meets its contract: the values from place k on settle the answer. Assumes nothing.
 use Rattle.std.proofs.Common.{◌≡◌}
 use Rattle.columns.specs.Cells.{cells_of}
 use Rattle.columns.specs.code.ColumnAnswers.{side_of, without_value}
 use Rattle.columns.proofs.CellReads.{answered_from}
-use Rattle.columns.proofs.list.Columns.check_values.Given as goal
+use Rattle.columns.proofs.list.Columns.check_cells.Given as goal
 
 abbrev pub invariant-loop-k : goal.invariant-loop-k
 invariant-loop-k l =
