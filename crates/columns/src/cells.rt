@@ -65,6 +65,7 @@ impl<'a> Columns<'a> {
     }
 
     // The same of any list, of which nothing is asked: 3 where it has no column.
+    #[tactic(auto, using(crate::specs::laws::ListedColumnLaws::columns_broken), unfolding(crate::specs::Cells::cells_of))]
     pub fn check_values(self, values: &[u8], side: Side) -> Result<(), ErrorKind>
         ensures { result ≡ without_value (cells_of (side_of side) self.entry.list.now values.now) }
     {
